@@ -1,0 +1,4 @@
+pub mod Bits
+pub mod Circuits
+pub mod Naming
+pub mod Parameter
