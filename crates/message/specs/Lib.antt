@@ -1,0 +1,5 @@
+pub mod Decode
+pub mod Faults
+pub mod Meaning
+pub mod Msg
+pub mod Types
