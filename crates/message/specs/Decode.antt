@@ -74,13 +74,12 @@ within (grouped c k i r s) = leb i 1 && group.within 255 r s
 within (release c x) = true
 within (call c k x) = true
 
+-- a message of type t, as far as it has the layout and keeps the limits
 abbrev pub limited : ℕ → Option Msg → Result Msg MessageFault
 limited t None = Err (Layout t)
 limited t (Some m) = cond (within m) (Ok m) (Err (Limit t))
 
-abbrev pub decodeGrouped : ℕ → ℕ → Grouped → List ℕ → Result Msg MessageFault
-decodeGrouped t c k xs = limited t (asGrouped c k xs)
-
+-- what a listed type says
 abbrev pub decodeAs : ℕ → ℕ → List ℕ → Option Kind → Result Msg MessageFault
 decodeAs t c xs None = Err (Unknown t)
 decodeAs t c xs (Some k) = limited t (laidOutAs k c xs)

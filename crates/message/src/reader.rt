@@ -11,7 +11,7 @@ use status::Cic;
 use status::Range;
 use status::read_group;
 ghost use mathlib.Core.Path.{_≡_};
-ghost use Rattle.message.specs.Decode.{decode, decodeRest, decodeGrouped, releaseLaidOut};
+ghost use Rattle.message.specs.Decode.{decode, decodeRest, limited, asGrouped, releaseLaidOut};
 ghost use Rattle.message.specs.Meaning.{seen};
 
 // A release: 02, a pointer, 02 and two cause octets.
@@ -31,7 +31,7 @@ fn read_grouped<'a>(
     what: Grouped,
     rest: &'a [u8],
 ) -> Result<Message<'a>, MessageFault>
-    ensures { λ r. ⌜ seen r ≡ decodeGrouped kind (cic .0) what (now (rest .entry)) ⌝ }
+    ensures { λ r. ⌜ seen r ≡ limited kind (asGrouped (cic .0) what (now (rest .entry))) ⌝ }
 {
     if rest.len() < 2 || rest[1] != 1 {
         return Err(MessageFault::Layout(kind));

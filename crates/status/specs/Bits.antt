@@ -4,7 +4,7 @@ use mathlib.Core.List.{List}
 use mathlib.Core.Path.{_≡_}
 use Prim.Native.Nat.{ℕ, zero, suc, _+_, _/_, _%_, _^_, _≤_}
 use lib.Dec.{eqb, leb}
-use lib.ListN.{getD}
+use lib.ListN.{getD, set}
 
 -- a bit for each of r + 1 circuits, rounded up to whole octets
 abbrev pub octetsFor : ℕ → ℕ
@@ -26,3 +26,7 @@ isNamed r xs n = leb n r && eqb (bitAt xs n) 1
 -- two statuses of the range r differ in spare bits at most
 abbrev pub SameBits : ℕ → List ℕ → List ℕ → Type 0
 SameBits r xs ys = (k : ℕ) → k ≤ r → bitAt xs k ≡ bitAt ys k
+
+-- a status of the range r with the spare bits of its last octet 0
+abbrev pub cleared : ℕ → List ℕ → List ℕ
+cleared r xs = set xs (r / 8) (getD xs (r / 8) 0 % 2 ^ (r % 8 + 1))

@@ -1,9 +1,9 @@
 // A range of circuits and the bits of its status.
 ghost use mathlib.Core.Path.{_≡_};
 ghost use mathlib.Core.List.{List};
-ghost use Prim.Native.Nat.{ℕ, _+_};
+ghost use Prim.Native.Nat.{ℕ, _+_, _<_};
 ghost use lib.ListN.{length};
-ghost use Rattle.status.specs.Bits.{octetsFor, setBits, isNamed, SameBits};
+ghost use Rattle.status.specs.Bits.{octetsFor, bitAt, setBits, isNamed, SameBits, cleared};
 ghost use Rattle.status.specs.Naming.{circuitsOf};
 
 // The range of a group: it names the circuit of its message and as many circuits after it as it says,
@@ -45,5 +45,17 @@ impl Range {
             count += (status[last] & (0xff >> (7 - self.0 % 8))).count_ones();
         }
         count
+    }
+
+    // Clears the spare bits of the last octet of a status.
+    pub fn clear_spare(self, status: &mut [u8])
+        ensures after { λ _. ⌜ now (status .exit) ≡ cleared (self .0) (now (status .entry)) ⌝ }
+        ensures same { λ _. ⌜ SameBits (self .0) (now (status .entry)) (now (status .exit)) ⌝ }
+        ensures spare { λ _. ⌜ (length (now (status .entry)) ≡ octetsFor (self .0) → (k : ℕ) → self .0 < k → bitAt (now (status .exit)) k ≡ 0) ⌝ }
+    {
+        let last = self.0 as usize / 8;
+        if last < status.len() {
+            status[last] &= 0xff >> (7 - self.0 % 8);
+        }
     }
 }
