@@ -1,4 +1,5 @@
 pub mod Decode
+pub mod Encode
 pub mod Faults
 pub mod Meaning
 pub mod Msg

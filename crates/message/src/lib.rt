@@ -4,6 +4,7 @@ mod fault;
 mod kinds;
 mod reader;
 mod types;
+mod writer;
 
 pub use content::Message;
 pub use fault::MessageFault;
