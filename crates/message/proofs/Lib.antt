@@ -1,1 +1,1 @@
-pub mod Write
+pub mod Put

@@ -14,3 +14,4 @@ pub use kinds::CallKind;
 pub use kinds::Grouped;
 pub use kinds::Single;
 pub use reader::read;
+pub use writer::write;

@@ -5,7 +5,7 @@ use Prim.Native.Nat.{_+_, _<_, _≤_}
 use lib.ListN.{length, length-append}
 use Rattle.std.specs.declared.result.Result.the-variants.{Ok, Err}
 use Rattle.message.specs.Encode.{unlessRefused}
-use Rattle.message.proofs.Write.{no-room, room, both-put}
+use Rattle.message.proofs.Put.{no-room, room, both-put}
 use Rattle.message.proofs.writer.put.Needs as need
 use Rattle.message.proofs.writer.put.Needs.{then-out-head·by·then-out-head, then-out-head·by·else-out-head·then-out-head-2}
 

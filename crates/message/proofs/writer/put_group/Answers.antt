@@ -1,5 +1,5 @@
 use mathlib.Core.Path.{_∙_}
-use Rattle.message.proofs.Write.{written-alike, length-cleared, cleared-put}
+use Rattle.message.proofs.Put.{written-alike, length-cleared, cleared-put}
 use Rattle.message.proofs.writer.put_group.Needs as need
 
 pub returns-in-Ok : need.returns-in-Ok
