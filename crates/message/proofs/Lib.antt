@@ -1,1 +1,4 @@
+pub mod Lists
+pub mod Listed
 pub mod Put
+pub mod Rows

@@ -1,6 +1,7 @@
 pub mod Decode
 pub mod Encode
 pub mod Faults
+pub mod Format
 pub mod Meaning
 pub mod Msg
 pub mod Types
