@@ -12,6 +12,7 @@ use status::Range;
 use status::read_group;
 ghost use mathlib.Core.Path.{_≡_};
 ghost use Rattle.message.specs.Decode.{decode, decodeRest, limited, asGrouped, releaseLaidOut};
+ghost use Rattle.message.specs.Laws.{Reads};
 ghost use Rattle.message.specs.Meaning.{seen};
 
 // A release: 02, a pointer, 02 and two cause octets.
@@ -87,7 +88,8 @@ fn read_rest<'a>(cic: Cic, kind: u8, rest: &'a [u8]) -> Result<Message<'a>, Mess
 
 // The message that the octets are.
 pub fn read(octets: &[u8]) -> Result<Message<'_>, MessageFault>
-    ensures { λ r. ⌜ seen r ≡ decode (now (octets .entry)) ⌝ }
+    ensures value { λ r. ⌜ seen r ≡ decode (now (octets .entry)) ⌝ }
+    ensures format { λ r. ⌜ Reads (now (octets .entry)) (seen r) ⌝ }
 {
     if octets.len() < 3 {
         return Err(MessageFault::Short);

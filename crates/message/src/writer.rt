@@ -12,6 +12,7 @@ ghost use Rattle.status.specs.Bits.{octetsFor, cleared};
 ghost use Rattle.status.specs.Parameter.{within as groupWithin};
 ghost use Rattle.message.specs.Decode.{within};
 ghost use Rattle.message.specs.Encode.{encode, sized, refusalOf, written, leaves};
+ghost use Rattle.message.specs.Laws.{Writes};
 ghost use Rattle.message.specs.Meaning.{meaning};
 ghost use mathlib.Core.Bool.{_&&_};
 ghost use lib.Dec.{eqb, leb};
@@ -117,8 +118,8 @@ fn refusal(message: Message<'_>) -> Option<MessageFault>
     None
 }
 
-// Writes the message to the front of `out`, and returns how many octets it has.
-pub fn write(message: Message<'_>, out: &mut [u8]) -> Result<usize, MessageFault>
+// Lays the octets of the message out at the front of `out`.
+fn lay_out(message: Message<'_>, out: &mut [u8]) -> Result<usize, MessageFault>
     ensures value { λ r. ⌜ r ≡ written (encode (meaning (message .entry))) (refusalOf (meaning (message .entry))) (length (now (out .entry))) ⌝ }
     ensures after { λ r. ⌜ now (out .exit) ≡ leaves (encode (meaning (message .entry))) (now (out .entry)) r ⌝ }
 {
@@ -141,4 +142,13 @@ pub fn write(message: Message<'_>, out: &mut [u8]) -> Result<usize, MessageFault
         Message::Release(_, cause) => put(out, no, &[low, high, kind, 2, 0, 2], cause),
         Message::Call(_, _, body) => put(out, no, &[low, high, kind], body),
     }
+}
+
+// Writes the message to the front of `out`, and returns how many octets it has.
+pub fn write(message: Message<'_>, out: &mut [u8]) -> Result<usize, MessageFault>
+    ensures value { λ r. ⌜ r ≡ written (encode (meaning (message .entry))) (refusalOf (meaning (message .entry))) (length (now (out .entry))) ⌝ }
+    ensures after { λ r. ⌜ now (out .exit) ≡ leaves (encode (meaning (message .entry))) (now (out .entry)) r ⌝ }
+    ensures format { λ r. ⌜ Writes (meaning (message .entry)) (now (out .entry)) r (now (out .exit)) ⌝ }
+{
+    lay_out(message, out)
 }
