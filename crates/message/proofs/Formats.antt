@@ -84,9 +84,9 @@ view xs =
     elim (cases-lt (length xs) 3) [
       | inl h ↦ tooShort h (decode-short xs h)
       | inr h ↦ elim (listed (getD xs 2 0)) [
-          | inl p ↦ view-of xs h (p .0) (p .1) _ refl
-          | inr e ↦ unlistedType h (λ p. unlisted (getD xs 2 0) e (p .0) (p .1)) (decode-long xs h ∙ rw e)
-        ]
+        | inl p ↦ view-of xs h (p .0) (p .1) _ refl
+        | inr e ↦ unlistedType h (λ p. unlisted (getD xs 2 0) e (p .0) (p .1)) (decode-long xs h ∙ rw e)
+      ]
     ]
 
 -- octets of a layout have a listed type
@@ -103,9 +103,9 @@ not-within m w l = true≢false (sym (limits-kept m l) ∙ w)
 layout-held : (xs : List ℕ) (t : ℕ) → decode xs ≡ Err (Layout t) → (m : Msg) → LaidOut xs m → ⊥
 layout-held xs t p m l = go (within m) (laid-decoded xs m l)
   where
-  go : (b : Bool) → decode xs ≡ cond b (Ok m) (Err (Limit (typeIn m))) → ⊥
-  go true d = let z : _≡_ {A = ℕ} 0 1 = cc in omega arith
-  go false d = let z : _≡_ {A = ℕ} 0 1 = cc in omega arith
+    go : (b : Bool) → decode xs ≡ cond b (Ok m) (Err (Limit (typeIn m))) → ⊥
+    go true d = let z : _≡_ {A = ℕ} 0 1 = cc in omega arith
+    go false d = let z : _≡_ {A = ℕ} 0 1 = cc in omega arith
 
 -- each outcome has its cause
 pub caused : (xs : List ℕ) → View xs → Because xs (decode xs)
@@ -132,9 +132,9 @@ layout-refused xs t (aMessage m l w d) (y, k, n) = absurd (n m l)
 limit-refused : (xs : List ℕ) (t : ℕ) → Because xs (Err (Limit t)) → decode xs ≡ Err (Limit t)
 limit-refused xs t (m, e, l, n) = go (within m) refl
   where
-  go : (b : Bool) → within m ≡ b → decode xs ≡ Err (Limit t)
-  go true w = absurd (n (limits-said m w))
-  go false w = laid-decoded xs m l ∙ rw (w, e)
+    go : (b : Bool) → within m ≡ b → decode xs ≡ Err (Limit t)
+    go true w = absurd (n (limits-said m w))
+    go false w = laid-decoded xs m l ∙ rw (w, e)
 
 -- and each cause its outcome
 pub follows-from : (xs : List ℕ) (o : Result Msg MessageFault) → Because xs o → decode xs ≡ o

@@ -38,9 +38,9 @@ row : {t : ℕ} (j : Kind) {rest : Option Kind} {k : Kind} → (rest ≡ Some k 
     cond (eqb t (typeOf j)) (Some j) rest ≡ Some k → typeOf k ≡ t
 row {t} j {rest} {k} after e = at (eqb t (typeOf j)) refl e
   where
-  at : (b : Bool) → eqb t (typeOf j) ≡ b → cond b (Some j) rest ≡ Some k → typeOf k ≡ t
-  at true p q = let s : j ≡ k = cc in ap typeOf (sym s) ∙ sym (eqb-true t (typeOf j) p)
-  at false p q = after q
+    at : (b : Bool) → eqb t (typeOf j) ≡ b → cond b (Some j) rest ≡ Some k → typeOf k ≡ t
+    at true p q = let s : j ≡ k = cc in ap typeOf (sym s) ∙ sym (eqb-true t (typeOf j) p)
+    at false p q = after q
 
 pub type-of-kind : (t : ℕ) (k : Kind) → kindOf t ≡ Some k → typeOf k ≡ t
 type-of-kind t k =
@@ -57,6 +57,6 @@ unlisted t e k p = none-some k (sym e ∙ ap kindOf (sym p) ∙ kind-of-type k)
 pub listed : (t : ℕ) → ((k : Kind) × (kindOf t ≡ Some k)) ⊎ (kindOf t ≡ None)
 listed t = go (kindOf t) refl
   where
-  go : (o : Option Kind) → kindOf t ≡ o → ((k : Kind) × (kindOf t ≡ Some k)) ⊎ (kindOf t ≡ None)
-  go None e = inr e
-  go (Some k) e = inl (k, e)
+    go : (o : Option Kind) → kindOf t ≡ o → ((k : Kind) × (kindOf t ≡ Some k)) ⊎ (kindOf t ≡ None)
+    go None e = inr e
+    go (Some k) e = inl (k, e)

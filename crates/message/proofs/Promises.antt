@@ -51,17 +51,17 @@ reads-law xs r o e =
     record {
       because = λ q. ((λ p. subst (Because xs) (sym e ∙ p) (caused xs (view xs))), λ b. e ∙ follows-from xs q b);
       single = one-message xs;
-      again = λ m p. (may m p, written-back m (may m p))
+      again = λ m p. (may m p, written-back m (may m p));
     }
 
 -- an accepted message was written whole
 written-whole : (w : List ℕ) (f : Option MessageFault) (k n : ℕ) → written w f k ≡ Ok n → (f ≡ None) × (n ≡ length w)
 written-whole w f k n e = go (ltb k (length w)) f e
   where
-  go : (b : Bool) (g : Option MessageFault) → cond b (Err NoRoom) (unlessRefused w g) ≡ Ok n → (g ≡ None) × (n ≡ length w)
-  go true g p = let z : _≡_ {A = ℕ} 0 1 = cc in absurd (omega arith)
-  go false None p = (refl, cc)
-  go false (Some x) p = let z : _≡_ {A = ℕ} 0 1 = cc in absurd (omega arith)
+    go : (b : Bool) (g : Option MessageFault) → cond b (Err NoRoom) (unlessRefused w g) ≡ Ok n → (g ≡ None) × (n ≡ length w)
+    go true g p = let z : _≡_ {A = ℕ} 0 1 = cc in absurd (omega arith)
+    go false None p = (refl, cc)
+    go false (Some x) p = let z : _≡_ {A = ℕ} 0 1 = cc in absurd (omega arith)
 
 spare-status : (m : Msg) → sized m ≡ true → within m ≡ true → SpareStatus m (encode m)
 spare-status (single c k) z w = tt
@@ -102,17 +102,17 @@ pub writes-law : (m : Msg) (before after : List ℕ) (r : Result ℕ MessageFaul
 writes-law m before after r j e a =
     record {
       back = λ n p.
-        let w = whole-front m before after r e a n p in
-        let may = may-write m (w .0) in
-        rw (w .1) (written-back m (w .0), (omega (arith, may .0), spare-status m (may .2) (may .1)));
+          let w = whole-front m before after r e a n p in
+          let may = may-write m (w .0) in
+          rw (w .1) (written-back m (w .0), (omega (arith, may .0), spare-status m (may .2) (may .1)));
       refuses = λ h l f.
-        let b : ltb (length before) (length (encode m)) ≡ false = grind (arith, tells) in
-        let u : r ≡ unlessRefused (encode m) (refusalOf m) = e ∙ rw b in
-        rw u (same-refusal m f (refusalOf m) (reads-back m j h));
+          let b : ltb (length before) (length (encode m)) ≡ false = grind (arith, tells) in
+          let u : r ≡ unlessRefused (encode m) (refusalOf m) = e ∙ rw b in
+          rw u (same-refusal m f (refusalOf m) (reads-back m j h));
       alike = λ n p o q s.
-        let w = whole-front m before after r e a n p in
-        let x = written-back m (w .0) in
-        let y = written-back o q in
-        let z : encode o ≡ encode m = s ∙ w .1 in
-        cc
+          let w = whole-front m before after r e a n p in
+          let x = written-back m (w .0) in
+          let y = written-back o q in
+          let z : encode o ≡ encode m = s ∙ w .1 in
+          cc;
     }

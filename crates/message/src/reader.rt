@@ -65,8 +65,7 @@ fn read_rest<'a>(cic: Cic, kind: u8, rest: &'a [u8]) -> Result<Message<'a>, Mess
             Ok(Message::ReleaseComplete(cic))
         }
         REL if is_release(rest) => Ok(Message::Release(cic, &rest[3..5])),
-        GRS
-            if rest.len() == 3 && rest[0] == 1 && rest[1] == 1 && rest[2] >= 1 && rest[2] <= 31 => {
+        GRS if rest.len() == 3 && rest[0] == 1 && rest[1] == 1 && rest[2] >= 1 && rest[2] <= 31 => {
             Ok(Message::GroupReset(cic, Range(rest[2])))
         }
         GRS if rest.len() == 3 && rest[0] == 1 && rest[1] == 1 => Err(MessageFault::Limit(kind)),

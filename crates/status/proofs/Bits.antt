@@ -51,16 +51,16 @@ bit-past xs n h = let e : getD xs (n / 8) 0 ≡ 0 = getD-past xs (n / 8) 0 h in 
 pub masked : (x k : ℕ) → k < 8 → bitAnd x (255 / 2 ^ (7 - k)) ≡ x % 2 ^ (k + 1)
 masked x k h = mask-is k h ∙ and-mask x (k + 1)
   where
-  mask-is : (j : ℕ) → j < 8 → bitAnd x (255 / 2 ^ (7 - j)) ≡ bitAnd x (2 ^ (j + 1) - 1)
-  mask-is zero l = refl
-  mask-is (suc zero) l = refl
-  mask-is (suc (suc zero)) l = refl
-  mask-is (suc (suc (suc zero))) l = refl
-  mask-is (suc (suc (suc (suc zero)))) l = refl
-  mask-is (suc (suc (suc (suc (suc zero))))) l = refl
-  mask-is (suc (suc (suc (suc (suc (suc zero)))))) l = refl
-  mask-is (suc (suc (suc (suc (suc (suc (suc zero))))))) l = refl
-  mask-is (suc (suc (suc (suc (suc (suc (suc (suc j)))))))) l = absurd (omega arith)
+    mask-is : (j : ℕ) → j < 8 → bitAnd x (255 / 2 ^ (7 - j)) ≡ bitAnd x (2 ^ (j + 1) - 1)
+    mask-is zero l = refl
+    mask-is (suc zero) l = refl
+    mask-is (suc (suc zero)) l = refl
+    mask-is (suc (suc (suc zero))) l = refl
+    mask-is (suc (suc (suc (suc zero)))) l = refl
+    mask-is (suc (suc (suc (suc (suc zero))))) l = refl
+    mask-is (suc (suc (suc (suc (suc (suc zero)))))) l = refl
+    mask-is (suc (suc (suc (suc (suc (suc (suc zero))))))) l = refl
+    mask-is (suc (suc (suc (suc (suc (suc (suc (suc j)))))))) l = absurd (omega arith)
 
 -- the bits of a whole octet
 pub octet-whole : (xs : List ℕ) (i : ℕ) → getD xs i 0 < 256 → setBits xs (8 * (i + 1)) ≡ setBits xs (8 * i) + ones (getD xs i 0)

@@ -38,9 +38,9 @@ pub cleared-same : (r : ℕ) (xs : List ℕ) → SameBits r xs (cleared r xs)
 cleared-same r xs k h =
     elim (cases-eq (k / 8) (r / 8)) [
       | inl p ↦ elim (cases-lt (r / 8) (length xs)) [
-          | inl l ↦ rw (p, getD-set-same, bit-low (getD xs (r / 8) 0) (r % 8) (k % 8) (omega arith))
-          | inr l ↦ rw set-past
-        ]
+        | inl l ↦ rw (p, getD-set-same, bit-low (getD xs (r / 8) 0) (r % 8) (k % 8) (omega arith))
+        | inr l ↦ rw set-past
+      ]
       | inr ne ↦ rw getD-set-other
     ]
 

@@ -24,7 +24,7 @@ returns-in-Some c =
     record {
       value = sym (room (c .args .head .now) (c .args .tail .now) (c .args .refusal) _ l ∙ ap (unlessRefused _) (c .in-Some .is));
       after = refl;
-      end = tt
+      end = tt;
     }
 
 pub returns : need.returns
@@ -35,5 +35,5 @@ returns c =
     record {
       value = ap Ok (sym (length-append h t)) ∙ sym (room h t (c .args .refusal) _ l ∙ ap (unlessRefused (h ++ t)) (c .in-rest .is));
       after = both-put _ _ _ _ _ (c .copy-from-slice .ensures .after) (c .copy-from-slice-2 .ensures .after);
-      end = (refl, l)
+      end = (refl, l);
     }
