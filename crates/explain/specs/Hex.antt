@@ -2,8 +2,8 @@
 use mathlib.Core.Bool.{Bool, cond, _&&_, _||_}
 use mathlib.Core.List.{List, [], _∷_, _++_}
 use Prim.Native.Nat.{ℕ, _+_, _-_, _*_}
-use lib.Dec.{eqb, leb}
-use lib.ListN.{length, getD}
+use lib.Dec.{eqb, leb, ltb}
+use lib.ListN.{length, getD, take}
 use Rattle.std.specs.Of.Vec.{vec-items}
 use Rattle.std.specs.declared.option.Option.{Option}
 use Rattle.std.specs.declared.option.Option.the-variants.{None, Some}
@@ -50,3 +50,11 @@ listed (Some v) = Some (vec-items v)
 abbrev pub onto : List ℕ → Option (List ℕ) → Option (List ℕ)
 onto ys None = None
 onto ys (Some xs) = Some (ys ++ xs)
+
+-- without the byte b at the end
+abbrev pub withoutLast : ℕ → List ℕ → List ℕ
+withoutLast b xs = cond (ltb 0 (length xs) && eqb (getD xs (length xs - 1) 0) b) (take (length xs - 1) xs) xs
+
+-- without a line feed at the end, nor a carriage return before it
+abbrev pub withoutEnd : List ℕ → List ℕ
+withoutEnd xs = cond (ltb (length (withoutLast 10 xs)) (length xs)) (withoutLast 13 (withoutLast 10 xs)) (withoutLast 10 xs)

@@ -1,8 +1,7 @@
 // Octets written as hexadecimal digits.
 ghost use mathlib.Core.Path.{_≡_};
 ghost use Rattle.std.specs.Vec.{made};
-ghost use lib.ListN.{drop};
-ghost use Rattle.explain.specs.Hex.{digitOf, octetFront, hexOctets, listed};
+ghost use Rattle.explain.specs.Hex.{digitOf, octetFront, hexOctets, listed, withoutEnd, withoutLast};
 use std::alloc::AllocError;
 use std::alloc::Global;
 
@@ -51,4 +50,29 @@ pub fn hex_octets(heap: Global, line: &[u8]) -> Result<Option<Vec<u8>>, AllocErr
         }
     }
     Ok(Some(octets))
+}
+
+// A line without the line feed, or carriage return and line feed, at its end.
+pub fn without_end(line: &[u8]) -> &[u8]
+    ensures { λ r. ⌜ now r ≡ withoutEnd (now (line .entry)) ⌝ }
+{
+    let text = without_last(line, b'\n');
+    if text.len() < line.len() {
+        without_last(text, b'\r')
+    } else {
+        text
+    }
+}
+
+// A text without a byte at its end.
+fn without_last(text: &[u8], byte: u8) -> &[u8]
+    ensures { λ r. ⌜ now r ≡ withoutLast byte (now (text .entry)) ⌝ }
+{
+    let n = text.len();
+    if n > 0 && text[n - 1] == byte {
+        let (front, _) = text.split_at(n - 1);
+        front
+    } else {
+        text
+    }
 }
