@@ -53,9 +53,9 @@ impl Range {
         ensures same { λ _. ⌜ SameBits (self .0) (now (status .entry)) (now (status .exit)) ⌝ }
         ensures spare { λ _. ⌜ (length (now (status .entry)) ≡ octetsFor (self .0) → (k : ℕ) → self .0 < k → bitAt (now (status .exit)) k ≡ 0) ⌝ }
     {
-        let last = self.0 as usize / 8;
-        if last < status.len() {
-            status[last] &= 0xff >> (7 - self.0 % 8);
+        let end = self.0 as usize / 8;
+        if end < status.len() {
+            status[end] &= 0xff >> (7 - self.0 % 8);
         }
     }
 }

@@ -11,12 +11,12 @@ clauses : (r : ℕ) (xs ys : List ℕ) → ys ≡ cleared r xs →
     (ys ≡ cleared r xs) × SameBits r xs ys × (length xs ≡ octetsFor r → (k : ℕ) → r < k → bitAt ys k ≡ 0)
 clauses r xs ys e = (e, (λ k h. rw e (cleared-same r xs k h)), λ l k h. rw e (cleared-spare r xs l k h))
 
-pub returns-then-last-status : need.returns-then-last-status
-returns-then-last-status c =
+pub returns-then-end-status : need.returns-then-end-status
+returns-then-end-status c =
     let p = clauses (c .args .self .0) (c .args .status .now) _ (cleared-by-mask (c .args .self .0) (c .args .status .now)) in
     record { after = p .0; same = p .1; spare = p .2 }
 
-pub returns-else-last-status : need.returns-else-last-status
-returns-else-last-status c =
-    let p = clauses (c .args .self .0) (c .args .status .now) _ (cleared-short (c .args .self .0) (c .args .status .now) (c .if-last-status .left)) in
+pub returns-else-end-status : need.returns-else-end-status
+returns-else-end-status c =
+    let p = clauses (c .args .self .0) (c .args .status .now) _ (cleared-short (c .args .self .0) (c .args .status .now) (c .if-end-status .left)) in
     record { after = p .0; same = p .1; spare = p .2 }
