@@ -34,16 +34,17 @@ fn read_grouped<'a>(
 ) -> Result<Message<'a>, MessageFault>
     ensures { λ r. ⌜ seen r ≡ limited kind (asGrouped (cic .0) what (now (rest .entry))) ⌝ }
 {
-    if rest.len() < 2 || rest[1] != 1 {
+    if rest.len() < 4 || rest[1] != 1 {
         return Err(MessageFault::Layout(kind));
     }
     let (_, part) = rest.split_at(2);
     let group = read_group(kind, 255, part)?;
-    match rest[0] % 4 {
-        0 => Ok(Message::Grouped(cic, what, BlockType::Maintenance, group)),
-        1 => Ok(Message::Grouped(cic, what, BlockType::Hardware, group)),
-        _ => Err(MessageFault::Limit(kind)),
-    }
+    let why = match rest[0] % 4 {
+        0 => BlockType::Maintenance,
+        1 => BlockType::Hardware,
+        _ => return Err(MessageFault::Limit(kind)),
+    };
+    Ok(Message::Grouped(cic, what, why, group))
 }
 
 // The message of a type for a circuit, of which `rest` follows the type.
@@ -69,7 +70,7 @@ fn read_rest<'a>(cic: Cic, kind: u8, rest: &'a [u8]) -> Result<Message<'a>, Mess
             Ok(Message::GroupReset(cic, Range(rest[2])))
         }
         GRS if rest.len() == 3 && rest[0] == 1 && rest[1] == 1 => Err(MessageFault::Limit(kind)),
-        GRA if rest.len() >= 1 && rest[0] == 1 => {
+        GRA if rest.len() >= 3 && rest[0] == 1 => {
             let (_, part) = rest.split_at(1);
             let group = read_group(kind, 31, part)?;
             Ok(Message::GroupResetAck(cic, group))

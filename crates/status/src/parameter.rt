@@ -25,7 +25,7 @@ pub fn read_group(kind: u8, most: u8, part: &[u8]) -> Result<Group<'_>, ParamFau
     }
     let (_, status) = part.split_at(2);
     // a range of at most 31 has no more than 32 bits
-    if range.0 < 1 || range.0 > most || range.0 > 31 && range.count_set(status) > 32 {
+    if range.0 < 1 || range.0 > most || most > 31 && range.0 > 31 && range.count_set(status) > 32 {
         return Err(ParamFault::Limit(kind));
     }
     Ok(Group { range, status })
