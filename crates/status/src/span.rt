@@ -37,14 +37,15 @@ impl Range {
         ensures spare { λ r. ⌜ ((xs : List ℕ) → SameBits (self .0) (now (status .entry)) xs → r ≡ setBits xs (self .0 + 1)) ⌝ }
     {
         let last = self.0 as usize / 8;
-        let mut count = 0;
+        // at most 31 whole octets, so that an octet holds their count
+        let mut count: u8 = 0;
         for at in 0..last.min(status.len()) {
-            count += status[at].count_ones();
+            count += status[at].count_ones() as u8;
         }
         if last < status.len() {
-            count += (status[last] & (0xff >> (7 - self.0 % 8))).count_ones();
+            return count as u32 + (status[last] & (0xff >> (7 - self.0 % 8))).count_ones();
         }
-        count
+        count as u32
     }
 
     // Clears the spare bits of the last octet of a status.

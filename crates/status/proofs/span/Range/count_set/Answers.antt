@@ -25,8 +25,8 @@ loop-at-again c =
     let h : getD (c .args .status .now) (c .loop-at .at) 0 < 256 = omega (arith, c .typed .status (c .loop-at .at)) in
     (omega (arith, octet-whole (c .args .status .now) (c .loop-at .at) h), omega (arith, few _ h))
 
-pub add-count-then-last-status : need.add-count-then-last-status
-add-count-then-last-status c =
+pub add-result : need.add-result
+add-result c =
     let x = getD (c .args .status .now) (c .args .self .0 / 8) 0 in
     let h : x < 256 = omega (arith, c .typed .status (c .args .self .0 / 8)) in
     let m = 255 / 2 ^ (7 - c .args .self .0 % 8) in
@@ -47,8 +47,8 @@ returns-then-last-status c =
     let p = count-clauses _ r xs v in
     record { value = p .0; names = p .1; spare = p .2 }
 
-pub returns-else-last-status : need.returns-else-last-status
-returns-else-last-status c =
+pub returns : need.returns
+returns c =
     let xs = c .args .status .now in
     let r = c .args .self .0 in
     let e : c .loop-at .at ≡ length xs = omega arith in
