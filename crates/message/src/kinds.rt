@@ -12,7 +12,8 @@ pub enum BlockType {
 }
 
 impl BlockType {
-    pub(crate) fn indicator(self) -> u8
+    // The two bits of the indicator.
+    pub fn indicator(self) -> u8
         ensures { λ r. ⌜ r ≡ indicatorOf self ⌝ }
     {
         match self {

@@ -1,5 +1,4 @@
 // The reader for callers of C: what a message says, in plain numbers.
-use message::BlockType;
 use message::Message;
 use message::MessageFault;
 use message::read;
@@ -7,20 +6,11 @@ ghost use mathlib.Core.Path.{_≡_};
 ghost use lib.ListN.{length, getD};
 ghost use Prim.Native.Nat.{_-_};
 ghost use Rattle.message.specs.Decode.{decode};
-ghost use Rattle.message.specs.Meaning.{meaning, indicatorOf};
+ghost use Rattle.message.specs.Meaning.{meaning};
 ghost use Rattle.reader_abi.specs.Report.{accepted, answer, indicatorIn, partIn, rangeIn, refused, reported, typeRefused};
 
 // How many words a report has.
 const WORDS: usize = 8;
-
-fn indicator(why: BlockType) -> u8
-    ensures { λ r. ⌜ r ≡ indicatorOf why ⌝ }
-{
-    match why {
-        BlockType::Maintenance => 0,
-        BlockType::Hardware => 1,
-    }
-}
 
 // The indicator, the range and the octets that a message does not take apart.
 fn fields(message: Message<'_>) -> (u8, u8, &[u8])
@@ -33,7 +23,7 @@ fn fields(message: Message<'_>) -> (u8, u8, &[u8])
         Message::ReleaseComplete(_) => (0, 0, &[]),
         Message::GroupReset(_, range) => (0, range.0, &[]),
         Message::GroupResetAck(_, group) => (0, group.range.0, group.status),
-        Message::Grouped(_, _, why, group) => (indicator(why), group.range.0, group.status),
+        Message::Grouped(_, _, why, group) => (why.indicator(), group.range.0, group.status),
         Message::Release(_, cause) => (0, 0, cause),
         Message::Call(_, _, body) => (0, 0, body),
     }

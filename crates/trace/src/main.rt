@@ -73,7 +73,10 @@ fn run(rt: &LibcRuntime) -> io::Result<()> {
         refused,
         not_hex,
     } = tally;
-    writeln!(out, "{read} read, {refused} refused, {not_hex} not hexadecimal")?;
+    writeln!(
+        out,
+        "{read} read, {refused} refused, {not_hex} not hexadecimal"
+    )?;
     out.flush()
 }
 
