@@ -1,16 +1,18 @@
 // Compares our reader with another one: each line of standard input has a message and what the other reader said of it.
 use explain::Explanation;
 use explain::ExplanationDisplay;
-use explain::HexOctetsDisplay;
 use explain::hex_octets;
 use explain::without_end;
+use message::Message;
 use message::read;
+use message::write;
 use std::alloc::AllocError;
 use std::alloc::Global;
 use std::error::AnyError;
 use std::io;
 use std::io::BufRead;
 use std::io::BufReader;
+use std::io::Write;
 
 // A line cut at its first bar, without the spaces beside it.
 fn cut(line: &[u8]) -> Option<(&[u8], &[u8])> {
@@ -37,16 +39,28 @@ fn begins(text: &[u8], said: &[u8]) -> bool {
     text.len() == said.len() || text[said.len()] == b' '
 }
 
-// Whether we say the same of the octets as the other reader.
+// Whether the message, written again, is explained alike.
+fn again(heap: Global, message: Message<'_>, words: &[u8]) -> Result<bool, AllocError> {
+    let mut out = [0xff; 64];
+    match write(message, &mut out) {
+        Ok(n) if n <= out.len() => {
+            let back = Explanation(read(&out[0..n])).to_string(heap)?;
+            Ok(back.as_bytes() == words)
+        }
+        _ => Ok(false),
+    }
+}
+
+// Whether we say the same of the octets as the other reader, and again once the message is written.
 fn agrees(heap: Global, octets: &[u8], said: &[u8]) -> Result<bool, AllocError> {
     let Some(octets) = hex_octets(heap, octets)? else {
         return Ok(false);
     };
-    let ours = Explanation(read(octets.as_slice())).to_string(heap)?;
-    if begins(said, b"malformed") {
-        Ok(begins(ours.as_bytes(), b"refused"))
-    } else {
-        Ok(begins(ours.as_bytes(), said))
+    let found = read(octets.as_slice());
+    let ours = Explanation(found).to_string(heap)?;
+    match found {
+        Ok(message) => Ok(begins(ours.as_bytes(), said) && again(heap, message, ours.as_bytes())?),
+        Err(_) => Ok(begins(said, b"malformed")),
     }
 }
 
@@ -68,8 +82,8 @@ fn run(rt: &LibcRuntime) -> io::Result<()> {
             same = same.saturating_add(1);
         } else {
             other = other.saturating_add(1);
-            let shown = explain::HexOctets(text);
-            println!(rt, "differs, as text: {shown}")?;
+            rt.stdout().write_all(text)?;
+            println!(rt, " | differs")?;
         }
     }
     println!(rt, "{same} agree, {other} differ")
