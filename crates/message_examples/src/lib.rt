@@ -107,6 +107,11 @@ mod tests {
             Message::GroupReset(Cic(1), Range(32)),
             MessageFault::Limit(0x17),
         )?;
+        Ok(())
+    }
+
+    #[test]
+    fn group_refusals() -> Result<(), Fail> {
         let wrong_size = Group {
             range: Range(30),
             status: &[0, 0, 0],
