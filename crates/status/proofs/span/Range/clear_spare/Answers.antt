@@ -1,6 +1,7 @@
 use mathlib.Core.Path.{_≡_, sym, _∙_, subst}
 use mathlib.Core.List.{List}
 use Prim.Native.Nat.{ℕ, _<_}
+use native.Mathlib.Omega.{arith}
 use lib.ListN.{length}
 use Rattle.status.specs.Bits.{octetsFor, bitAt, SameBits, cleared}
 use Rattle.status.proofs.Cleared.{cleared-same, cleared-spare, cleared-by-mask, cleared-short}
@@ -18,5 +19,5 @@ returns-then-end-status c =
 
 pub returns-else-end-status : need.returns-else-end-status
 returns-else-end-status c =
-    let p = clauses (c .args .self .0) (c .args .status .now) _ (cleared-short (c .args .self .0) (c .args .status .now) (c .if-end-status .left)) in
+    let p = clauses (c .args .self .0) (c .args .status .now) _ (cleared-short (c .args .self .0) (c .args .status .now) (omega arith)) in
     record { after = p .0; same = p .1; spare = p .2 }
