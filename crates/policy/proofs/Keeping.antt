@@ -49,11 +49,13 @@ offer-new e ls ls′ p end l h f q a b c zs o =
     rw w (from-lines e ls′ _ _ _ (zs ++ p ∷ []) c (rw q at a) (rw q at b)
     (lines-push e (marks ls) (newers ls) (olders ls) zs p _ (omega arith) (omega arith) h out refl (to-lines e ls zs l o)))
 
-pub offer-member : (e : Bool) (ls : List Link) (p : ℕ) → getD (marks ls) p false ≡ true → (zs : List ℕ) → Ordered e ls zs → Ordered e ls (offered p zs)
-offer-member e ls p t zs o =
-    let i : has zs p ≡ true = sym (o .0 p) ∙ t in
+pub offer-member : (e : Bool) (ls ls′ : List Link) (p : ℕ) → getD (marks ls) p false ≡ true → newers ls′ ≡ newers ls → olders ls′ ≡ olders ls →
+    marks ls′ ≡ set (marks ls) p true → (zs : List ℕ) → Ordered e ls zs → Ordered e ls′ (offered p zs)
+offer-member e ls ls′ p t a b c zs (m, o, r, s) =
+    let i : has zs p ≡ true = sym (m p) ∙ t in
     let w : offered p zs ≡ zs = grind (arith, tells) in
-    rw w o
+    let d : marks ls′ ≡ marks ls = c ∙ sym (same-mark (marks ls) p true t) in
+    rw (w, a, b, d) (m, o, r, s)
 
 pub offer-past : (e : Bool) (ls : List Link) (p : ℕ) → 512 ≤ p → (zs : List ℕ) → Ordered e ls zs → Ordered e ls (offered p zs)
 offer-past e ls p h zs o = let w : offered p zs ≡ zs = grind (arith, tells) in rw w o

@@ -67,7 +67,9 @@ impl Links {
         ensures order { λ _. ⌜ ((zs : List ℕ) → Ordered even (now (self .entry) .links) zs → Ordered even (now (self .exit) .links) (offered at zs)) ⌝ }
     {
         if at < 512 {
-            if !self.is_linked(at) {
+            let linked = self.is_linked(at);
+            self.set_linked(at, true);
+            if !linked {
                 self.append(Self::end_for(even, at), at);
             }
         }
@@ -135,20 +137,19 @@ impl Links {
         self.links[at] = Link { linked, ..old };
     }
 
-    // Links a place in as the newest of the line that ends at `end`.
+    // Puts a place in as the newest of the line that ends at `end`.
     fn append(&mut self, end: usize, at: usize)
         requires at { ⌜ at < 512 ⌝ }
         requires end { ⌜ end < 514 ⌝ }
         ensures newer { λ _. ⌜ newers (now (self .exit) .links) ≡ set (set (newers (now (self .entry) .links)) (getD (olders (now (self .entry) .links)) end 0) at) at end ⌝ }
         ensures older { λ _. ⌜ olders (now (self .exit) .links) ≡ set (set (olders (now (self .entry) .links)) end at) at (getD (olders (now (self .entry) .links)) end 0) ⌝ }
-        ensures marks { λ _. ⌜ marks (now (self .exit) .links) ≡ set (marks (now (self .entry) .links)) at true ⌝ }
+        ensures marks { λ _. ⌜ marks (now (self .exit) .links) ≡ marks (now (self .entry) .links) ⌝ }
     {
         let last = self.links[end].older;
         self.set_newer(last, at);
         self.set_older(end, at);
         self.set_newer(at, end);
         self.set_older(at, last);
-        self.set_linked(at, true);
     }
 
     // Takes a place out, and joins its neighbours.

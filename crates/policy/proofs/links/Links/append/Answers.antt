@@ -10,5 +10,4 @@ returns c =
     let b = c .set-older .ensures in
     let d = c .set-newer-2 .ensures in
     let e = c .set-older-2 .ensures in
-    let g = c .set-linked .ensures in
     record { newer = cc; older = cc; marks = cc }

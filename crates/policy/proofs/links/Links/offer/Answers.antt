@@ -1,26 +1,34 @@
-use mathlib.Core.Path.{refl, sym}
+use mathlib.Core.Path.{_≡_, sym, _∙_}
 use mathlib.Core.Bool.{true}
 use native.Mathlib.Omega.{arith}
+use lib.ListN.{getD, set}
 use Rattle.std.proofs.shelf.Lists.{set-past}
-use Rattle.policy.proofs.Keeping.{marks-length, same-mark, offer-new, offer-member, offer-past}
-use Rattle.policy.specs.Orders.{marks}
+use Rattle.policy.proofs.Keeping.{marks-length, offer-new, offer-member, offer-past}
+use Rattle.policy.specs.Orders.{marks, newers, olders}
 use Rattle.policy.proofs.links.Links.offer.Needs as need
 
-pub returns-then-not-is-linked : need.returns-then-not-is-linked
-returns-then-not-is-linked c =
+pub returns-then-not-linked : need.returns-then-not-linked
+returns-then-not-linked c =
     let ls = c .args .self .now .links in
+    let at = c .args .at in
+    let end = c .end-for .result in
     let p = c .append .ensures in
+    let q = c .set-linked .ensures in
+    let m : marks (c .append .last .self .links) ≡ set (marks ls) at true = p .marks ∙ q .marks in
+    let n : newers (c .append .last .self .links) ≡ set (set (newers ls) (getD (olders ls) end 0) at) at end = cc in
+    let o : olders (c .append .last .self .links) ≡ set (set (olders ls) end at) at (getD (olders ls) end 0) = cc in
     record {
-      set = p .marks;
-      order = offer-new (c .args .even) ls _ (c .args .at) (c .end-for .result) (c .args .self .now .ok) (c .if-at-lt512 .taken)
-          (sym (c .if-not-is-linked .ensures tt)) (c .end-for .ensures) (p .newer) (p .older) (p .marks);
+      set = m;
+      order = offer-new (c .args .even) ls _ at end (c .args .self .now .ok) (c .if-at-lt512 .taken) (sym (c .if-not-linked .ensures tt)) (c .end-for .ensures) n o m;
     }
 
-pub returns-else-not-is-linked : need.returns-else-not-is-linked
-returns-else-not-is-linked c =
-    let ls = c .args .self .now .links in
-    let t = sym (c .if-not-is-linked .ensures tt) in
-    record { set = same-mark (marks ls) (c .args .at) true t; order = offer-member (c .args .even) ls (c .args .at) t }
+pub returns-else-not-linked : need.returns-else-not-linked
+returns-else-not-linked c =
+    let q = c .set-linked .ensures in
+    record {
+      set = q .marks;
+      order = offer-member (c .args .even) (c .args .self .now .links) _ (c .args .at) (sym (c .if-not-linked .ensures tt)) (q .newer) (q .older) (q .marks);
+    }
 
 pub returns-else-at-lt512 : need.returns-else-at-lt512
 returns-else-at-lt512 c =
