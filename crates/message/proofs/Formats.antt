@@ -1,11 +1,11 @@
 -- Reading accepts exactly what represents a message.
-use mathlib.Core.Path.{_≡_, refl, sym, _∙_, ap, subst}
+use mathlib.Core.Path.{_≡_, refl, sym, _∙_, ap}
 use mathlib.Core.Bool.{Bool, true, false, cond, true≢false}
 use mathlib.Core.List.{List, [], _∷_, _++_}
-use mathlib.Core.Logic.{_⊎_, inl, inr}
-use Prim.Native.Nat.{ℕ, suc, _+_, _*_, _/_, _%_, _<_, _≤_}
+use mathlib.Core.Logic.{inl, inr}
+use Prim.Native.Nat.{ℕ, _+_, _*_, _/_, _%_, _<_, _≤_}
 use native.Mathlib.Omega.{arith}
-use lib.Dec.{eqb, leb, ltb}
+use lib.Dec.{ltb}
 use lib.ListN.{length, getD, drop}
 use Rattle.std.proofs.shelf.Tests.{cases-lt}
 use Rattle.std.proofs.shelf.Ways.{tells}
@@ -18,10 +18,10 @@ use Rattle.status.specs.Circuits.{cicOf}
 use Rattle.message.proofs.Listed.{kind-of-type, type-of-kind, unlisted, listed}
 use Rattle.message.proofs.Lists.{first-three}
 use Rattle.message.proofs.Rows.{laid-said, said-laid}
-use Rattle.message.specs.Decode.{decode, decodeRest, decodeAs, limited, laidOutAs, within}
+use Rattle.message.specs.Decode.{decode, decodeRest, laidOutAs, within}
 use Rattle.message.specs.Encode.{typeIn}
-use Rattle.message.specs.Format.{Headed, Follows, LaidOut, Limits, Represents}
-use Rattle.message.specs.Laws.{Exactly, Typed, Listed, Because}
+use Rattle.message.specs.Format.{LaidOut, Limits, Represents}
+use Rattle.message.specs.Laws.{Typed, Listed, Because}
 use Rattle.message.specs.Msg.{Msg, single, releaseComplete, groupReset, groupResetAck, grouped, release, call, cicIn, kindIn}
 use Rattle.message.specs.Types.{Kind, kindOf, typeOf}
 use Rattle.message.specs.declared.fault.MessageFault.{MessageFault}

@@ -8,10 +8,6 @@ use lib.ListN.{length, getD, drop}
 use Rattle.std.specs.declared.option.Option.{Option}
 use Rattle.std.specs.declared.option.Option.the-variants.{None, Some}
 
-pub first-one : (xs : List ℕ) → 1 ≤ length xs → xs ≡ getD xs 0 0 ∷ drop 1 xs
-first-one [] h = absurd (omega arith)
-first-one (a ∷ xs) h = refl
-
 pub first-two : (xs : List ℕ) → 2 ≤ length xs → xs ≡ getD xs 0 0 ∷ getD xs 1 0 ∷ drop 2 xs
 first-two [] h = absurd (omega arith)
 first-two (a ∷ []) h = absurd (omega arith)

@@ -1,11 +1,10 @@
 -- What reading and writing keep.
 use mathlib.Core.Path.{_≡_, refl, sym, _∙_, ap, subst}
 use mathlib.Core.Bool.{Bool, true, false, cond}
-use mathlib.Core.List.{List, [], _∷_, _++_}
-use mathlib.Core.Logic.{_⊎_, inl, inr}
-use Prim.Native.Nat.{ℕ, _+_, _*_, _/_, _%_, _<_, _≤_}
+use mathlib.Core.List.{List}
+use Prim.Native.Nat.{ℕ, _<_}
 use native.Mathlib.Omega.{arith}
-use lib.Dec.{eqb, leb, ltb}
+use lib.Dec.{leb, ltb}
 use lib.ListN.{length, getD, take, drop}
 use lib.Seq.{take-at}
 use Rattle.std.proofs.shelf.Ways.{tells}
@@ -17,9 +16,9 @@ use Rattle.status.proofs.Cleared.{cleared-spare}
 use Rattle.message.proofs.Formats.{view, caused, follows-from, limits-kept, one-message}
 use Rattle.message.proofs.RoundTrip.{Indicated, may-write, reads-back, reread, written-back}
 use Rattle.message.specs.Decode.{decode, within}
-use Rattle.message.specs.Encode.{encode, plain, sized, refusalOf, typeIn, written, unlessRefused, leaves}
-use Rattle.message.specs.Format.{Follows, LaidOut, Represents}
-use Rattle.message.specs.Laws.{Exactly, Because, Reads, SpareStatus, SpareZero, Writes}
+use Rattle.message.specs.Encode.{encode, sized, refusalOf, written, unlessRefused, leaves}
+use Rattle.message.specs.Format.{Follows, Represents}
+use Rattle.message.specs.Laws.{Exactly, Because, Reads, SpareStatus, Writes}
 use Rattle.message.specs.Meaning.{meaning}
 use Rattle.message.specs.declared.content.Message.{Message}
 use Rattle.message.specs.declared.content.Message.the-variants as m

@@ -1,6 +1,6 @@
 -- Octets that are written to the front of others.
 use borrow.Rule.Slice.PartMut.{putMid, postOf}
-use mathlib.Core.Path.{_≡_, refl, _∙_}
+use mathlib.Core.Path.{_≡_, refl}
 use mathlib.Core.Bool.{true, false}
 use mathlib.Core.List.{List, _++_, append-assoc}
 use native.Mathlib.Nat.{add-sub-cancel-left, sub-zero}
@@ -12,7 +12,7 @@ use lib.Seq.{take-at, drop-at, drop-drop}
 use Rattle.std.proofs.shelf.Ways.{tells}
 use Rattle.std.specs.declared.option.Option.{Option}
 use Rattle.std.specs.declared.option.Option.the-variants.{None, Some}
-use Rattle.std.specs.declared.result.Result.the-variants.{Ok, Err}
+use Rattle.std.specs.declared.result.Result.the-variants.{Err}
 use Rattle.status.specs.Bits.{cleared}
 use Rattle.message.specs.declared.fault.MessageFault.{MessageFault}
 use Rattle.message.specs.declared.fault.MessageFault.the-variants.{NoRoom}

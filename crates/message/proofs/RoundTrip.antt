@@ -1,33 +1,31 @@
 -- What is written is read back.
-use mathlib.Core.Path.{_≡_, refl, sym, _∙_, ap}
+use mathlib.Core.Path.{_≡_, refl, sym, _∙_}
 use mathlib.Core.Bool.{Bool, true, false, cond, _&&_, true≢false}
-use mathlib.Core.List.{List, [], _∷_, _++_}
-use mathlib.Core.Logic.{_⊎_, inl, inr}
+use mathlib.Core.List.{List, _∷_}
+use mathlib.Core.Logic.{inl}
 use Prim.Native.Nat.{ℕ, _+_, _*_, _/_, _%_, _<_, _≤_}
 use native.Mathlib.Omega.{arith}
-use lib.Dec.{eqb, leb}
+use lib.Dec.{leb}
 use lib.ListN.{length, length-set}
-use Rattle.std.proofs.shelf.Tests.{cases-eq}
-use Rattle.std.proofs.shelf.Ways.{tells, decides-eqb}
+use Rattle.std.proofs.shelf.Ways.{tells}
 use Rattle.std.specs.declared.option.Option.{Option}
 use Rattle.std.specs.declared.option.Option.the-variants.{None, Some}
 use Rattle.std.specs.declared.result.Result.{Result}
 use Rattle.std.specs.declared.result.Result.the-variants.{Ok, Err}
 use Rattle.status.proofs.Cleared.{cleared-same}
 use Rattle.status.proofs.Names.{count-same}
-use Rattle.status.specs.Bits.{octetsFor, setBits, cleared}
+use Rattle.status.specs.Bits.{octetsFor, cleared}
 use Rattle.status.specs.Circuits.{cicOf}
 use Rattle.status.specs.Parameter as group
 use Rattle.message.proofs.Formats.{decode-long}
 use Rattle.message.proofs.Listed.{kind-of-type}
 use Rattle.message.proofs.Lists.{none-some}
 use Rattle.message.proofs.Rows.{said-laid}
-use Rattle.message.specs.Decode.{decode, decodeRest, limited, laidOutAs, within, asGroupResetAck, asGrouped, asRelease, asCall}
+use Rattle.message.specs.Decode.{decode, limited, laidOutAs, within}
 use Rattle.message.specs.Encode.{encode, encodeRest, plain, sized, refusalOf, typeIn}
-use Rattle.message.specs.Format.{Parameter, Follows}
 use Rattle.message.specs.Msg.{Msg, single, releaseComplete, groupReset, groupResetAck, grouped, release, call, cicIn, kindIn}
 use Rattle.message.specs.declared.fault.MessageFault.{MessageFault}
-use Rattle.message.specs.declared.fault.MessageFault.the-variants.{NoRoom, Short, Unknown, Layout, Limit}
+use Rattle.message.specs.declared.fault.MessageFault.the-variants.{Layout, Limit}
 
 length-cleared : (r : ℕ) (s : List ℕ) → length (cleared r s) ≡ length s
 length-cleared r s = simp length-set

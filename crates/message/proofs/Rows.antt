@@ -1,20 +1,19 @@
 -- Each row of the table: the layout that is tested is the layout that is said.
-use mathlib.Core.Path.{_≡_, refl, sym, _∙_, ap, subst}
-use mathlib.Core.Bool.{Bool, true, false, cond, _&&_, _||_}
+use mathlib.Core.Path.{_≡_, refl, _∙_, ap, subst}
+use mathlib.Core.Bool.{Bool, true, cond, _&&_, _||_}
 use mathlib.Core.List.{List, [], _∷_, _++_}
 use mathlib.Core.Logic.{_⊎_, inl, inr}
-use Prim.Native.Nat.{ℕ, suc, _+_, _*_, _/_, _%_, _<_, _≤_}
+use Prim.Native.Nat.{ℕ, _+_, _*_, _/_, _%_, _≤_}
 use native.Mathlib.Omega.{arith}
 use lib.Dec.{eqb, leb}
 use lib.ListN.{length, getD, drop, take, length-append}
-use Rattle.std.proofs.shelf.Lists.{nil-from-length, take-all, take-append-drop, take-at, length-take, length-drop}
+use Rattle.std.proofs.shelf.Lists.{nil-from-length, take-all, take-at, length-drop}
 use Rattle.std.proofs.shelf.Ways.{tells}
-use Rattle.std.specs.declared.option.Option.{Option}
 use Rattle.std.specs.declared.option.Option.the-variants.{None, Some}
 use Rattle.status.specs.Bits.{octetsFor}
 use Rattle.status.specs.Parameter as group
-use Rattle.message.proofs.Lists.{passed, first-one, first-two, first-three}
-use Rattle.message.specs.Decode.{laidOutAs, releaseLaidOut, asReleaseComplete, asGroupReset, asGroupResetAck, asGrouped, asRelease, asCall}
+use Rattle.message.proofs.Lists.{passed, first-two, first-three}
+use Rattle.message.specs.Decode.{laidOutAs, releaseLaidOut, asGroupReset, asGroupResetAck, asGrouped, asRelease}
 use Rattle.message.specs.Format.{Parameter, Follows}
 use Rattle.message.specs.Msg.{Msg, single, releaseComplete, groupReset, groupResetAck, grouped, release, call, cicIn, kindIn}
 use Rattle.message.specs.Types.{Kind}

@@ -15,7 +15,7 @@ ghost use Rattle.message.specs.Encode.{encode, sized, refusalOf, written, leav
 ghost use Rattle.message.specs.Laws.{Writes};
 ghost use Rattle.message.specs.Meaning.{meaning};
 ghost use mathlib.Core.Bool.{_&&_};
-ghost use lib.Dec.{eqb, leb};
+ghost use lib.Dec.{eqb};
 
 // Writes `head` and then `tail` to the front of `out`, unless there is a refusal or no room.
 fn put(

@@ -1,15 +1,14 @@
 -- Links that are offered, withdrawn and chosen from keep the order.
-use mathlib.Core.Path.{_≡_, refl, sym, _∙_, ap, subst}
-use mathlib.Core.Bool.{Bool, true, false, cond, not, _||_, true≢false, false≢true}
-use mathlib.Core.List.{List, [], _∷_, _++_, map}
-use mathlib.Core.Logic.{_⊎_, inl, inr, _≢_, ∥∥₁-elim, ∥∥₁-map}
+use mathlib.Core.Path.{_≡_, refl, sym, _∙_, ap}
+use mathlib.Core.Bool.{Bool, true, false, cond, true≢false, false≢true}
+use mathlib.Core.List.{List, [], _∷_, _++_}
+use mathlib.Core.Logic.{_⊎_, inl, inr, _≢_, ∥∥₁-elim}
 use base.Stored.{coded-set, codedBool}
 use Prim.Native.Nat.{ℕ, _<_, _≤_}
 use native.Mathlib.Omega.{arith}
-use lib.Dec.{eqb, leb, ltb}
+use lib.Dec.{ltb}
 use lib.ListN.{length, getD, set, take}
-use Rattle.std.proofs.shelf.Lists.{getD-past, length-take-le, set-getD}
-use Rattle.std.proofs.shelf.Tests.{cases-lt}
+use Rattle.std.proofs.shelf.Lists.{length-take-le, set-getD}
 use Rattle.std.proofs.shelf.Ways.{tells}
 use Rattle.std.specs.declared.option.Option.{Option}
 use Rattle.std.specs.declared.option.Option.the-variants.{None, Some}
@@ -18,8 +17,8 @@ use Rattle.policy.proofs.Fields.{field-length}
 use Rattle.std.specs.Options.{isSome, valueOr}
 use Rattle.policy.proofs.Runs.{last-in}
 use Rattle.policy.proofs.Members.{in-head, in-tail, in-kept, kept-in, without-absent}
-use Rattle.policy.proofs.Ordering.{Marked, Lines, small, no-large, lines-push, lines-without}
-use Rattle.policy.specs.Orders.{has, Once, Run, Ordered, InOrder, newers, olders, marks, endFor, offered, withdrawn, controlled, uncontrolled, preferred, firstOf, lastOf}
+use Rattle.policy.proofs.Ordering.{Marked, Lines, small, lines-push, lines-without}
+use Rattle.policy.specs.Orders.{has, Run, Ordered, InOrder, newers, olders, marks, endFor, offered, withdrawn, controlled, uncontrolled, preferred, firstOf, lastOf}
 use Rattle.policy.specs.Sets.{Chosen}
 use Rattle.policy.specs.declared.interface.Place.{Place}
 use Rattle.policy.specs.declared.links.Link.{Link}

@@ -10,10 +10,6 @@ use Rattle.std.proofs.shelf.Ways.{tells, eqb-tells}
 use Rattle.std.specs.shelf.Lists.{kept-by}
 use Rattle.policy.specs.Orders.{has, Once, withdrawn}
 
--- a place that is in a list is not one that is out of it
-pub apart : (xs : List ℕ) (i k : ℕ) → has xs i ≡ true → has xs k ≡ false → k ≢ i
-apart xs i k p q e = true≢false (sym p ∙ ap (has xs) (sym e) ∙ q)
-
 pub out-head : (x : ℕ) (xs : List ℕ) (k : ℕ) → has (x ∷ xs) k ≡ false → (x ≢ k) × (has xs k ≡ false)
 out-head x xs k e = go (eqb-tells x k)
   where

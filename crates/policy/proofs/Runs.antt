@@ -1,13 +1,13 @@
 -- Runs of links.
-use mathlib.Core.Path.{_≡_, refl, sym, _∙_, ap, subst}
-use mathlib.Core.Bool.{Bool, true, false, true≢false, false≢true}
+use mathlib.Core.Path.{_≡_, sym, _∙_, ap, subst}
+use mathlib.Core.Bool.{true, false, true≢false, false≢true}
 use mathlib.Core.List.{List, [], _∷_, _++_}
 use mathlib.Core.Logic.{_⊎_, inl, inr, _≢_}
 use Prim.Native.Nat.{ℕ, _<_}
 use native.Mathlib.Omega.{arith}
 use lib.ListN.{length, getD, set, length-set}
 use lib.Seq.{getD-set-same, getD-set-other}
-use Rattle.policy.proofs.Members.{apart, out-head, out-cons, in-head, in-tail, in-cases, without-head, without-other}
+use Rattle.policy.proofs.Members.{out-head, in-head, in-tail, in-cases, without-head, without-other}
 use Rattle.policy.specs.Orders.{has, Once, Run, withdrawn}
 
 -- a run does not look at other places

@@ -3,8 +3,8 @@ use crate::interface::Place;
 use crate::interface::Policy;
 ghost use mathlib.Core.Path.{_≡_};
 ghost use mathlib.Core.Bool.{true, false};
-ghost use Prim.Native.Nat.{ℕ, _<_};
-ghost use lib.ListN.{length, getD, set, replicate};
+ghost use Prim.Native.Nat.{_<_};
+ghost use lib.ListN.{length, replicate};
 ghost use Rattle.policy.specs.Ends.{Nearest};
 ghost use Rattle.policy.specs.Sets.{Chosen};
 

@@ -3,7 +3,7 @@ use crate::interface::Place;
 use crate::interface::Policy;
 use crate::links::Links;
 ghost use mathlib.Core.Path.{_≡_};
-ghost use mathlib.Core.Bool.{Bool, true, false};
+ghost use mathlib.Core.Bool.{true, false};
 ghost use mathlib.Core.List.{List, []};
 ghost use Prim.Native.Nat.{ℕ};
 ghost use lib.ListN.{set, replicate};

@@ -1,13 +1,11 @@
 -- Bits of octets, one by one and counted.
 use mathlib.Core.Path.{_≡_, refl, sym, _∙_, ap}
 use mathlib.Core.List.{List}
-use mathlib.Core.Logic.{_⊎_, inl, inr}
 use Prim.Native.Nat.{ℕ, zero, suc, _+_, _-_, _*_, _/_, _%_, _^_, _<_, _≤_}
 use native.Mathlib.Omega.{arith}
 use native.Mathlib.Nat.{add-zero, add-suc, mod-one, zero-div}
-use native.Mathlib.Numerals.{add-one}
 use lib.Bits.{bitAnd}
-use lib.Count.{ones, ones-cat, ones-step}
+use lib.Count.{ones, ones-cat}
 use lib.ListN.{length, getD}
 use Rattle.std.proofs.shelf.Bits.{mod-pow-add, and-mask, pow-pos, mod-below}
 use Rattle.std.proofs.shelf.Lists.{getD-past}

@@ -1,9 +1,7 @@
-use mathlib.Core.Path.{_≡_, sym, _∙_, ap}
+use mathlib.Core.Path.{sym, _∙_, ap}
 use mathlib.Core.List.{List, [], _∷_, _++_}
 use Prim.Native.Nat.{ℕ}
-use lib.ListN.{drop}
 use Rattle.std.specs.Of.Vec.{vec-items}
-use Rattle.std.specs.declared.option.Option.{Option}
 use Rattle.explain.specs.Hex.{hexOctets, onto}
 use Rattle.explain.proofs.Hexes.{past-space, past-other, past-octet}
 use Rattle.explain.proofs.hex.hex_octets.Needs as need

@@ -1,8 +1,7 @@
-use Prim.Native.Nat.{_+_, _≤_}
+use Prim.Native.Nat.{_+_}
 use native.Mathlib.Omega.{arith}
 use lib.ListN.{getD, drop}
 use Rattle.std.proofs.shelf.Ways.{tells}
-use Rattle.status.specs.Bits.{setBits}
 use Rattle.status.proofs.Bits.{set-few}
 use Rattle.status.proofs.parameter.read_group.Needs as need
 use Rattle.status.proofs.parameter.read_group.Needs.{then-range-gt31, else-range-gt31}

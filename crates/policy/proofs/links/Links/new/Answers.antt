@@ -1,8 +1,4 @@
-use mathlib.Core.Path.{_≡_, refl, _∙_, ap}
-use mathlib.Core.Bool.{Bool, false}
-use mathlib.Core.List.{List}
-use Prim.Native.Nat.{ℕ}
-use lib.ListN.{getD, replicate}
+use mathlib.Core.Path.{refl}
 use Rattle.policy.proofs.Ordering.{none-marked}
 use Rattle.policy.proofs.links.Links.new.Needs as need
 

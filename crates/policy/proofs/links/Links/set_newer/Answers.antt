@@ -1,11 +1,11 @@
-use mathlib.Core.Path.{_≡_, refl, sym, _∙_, ap}
+use mathlib.Core.Path.{refl, sym, ap}
 use mathlib.Core.Bool.{Bool}
 use mathlib.Core.List.{List}
 use native.Mathlib.Omega.{arith}
 use lib.ListN.{take}
 use Rattle.std.proofs.shelf.Lists.{set-past}
-use Rattle.policy.proofs.Fields.{blank, field-set, field-kept, field-length, take-set}
-use Rattle.policy.specs.Orders.{newers, olders}
+use Rattle.policy.proofs.Fields.{blank, field-set, field-kept, field-length}
+use Rattle.policy.specs.Orders.{newers}
 use Rattle.policy.specs.declared.links.Link.{Link}
 use Rattle.policy.proofs.links.Links.set_newer.Needs as need
 

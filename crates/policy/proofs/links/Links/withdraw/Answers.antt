@@ -1,7 +1,7 @@
-use mathlib.Core.Path.{refl, sym, _∙_}
+use mathlib.Core.Path.{sym}
 use mathlib.Core.Bool.{false}
 use native.Mathlib.Omega.{arith}
-use Rattle.std.proofs.shelf.Lists.{set-past, getD-past}
+use Rattle.std.proofs.shelf.Lists.{getD-past}
 use Rattle.policy.proofs.Keeping.{marks-length, same-mark, withdraw-member, withdraw-other}
 use Rattle.policy.specs.Orders.{marks}
 use Rattle.policy.proofs.links.Links.withdraw.Needs as need

@@ -1,4 +1,4 @@
-use mathlib.Core.Path.{_≡_, _∙_}
+use mathlib.Core.Path.{_∙_}
 use Rattle.status.proofs.Names.{whole-range, names-same}
 use Rattle.status.proofs.span.Range.named.Needs as need
 

@@ -1,5 +1,4 @@
 use mathlib.Core.Path.{sym, _∙_}
-use native.Mathlib.Omega.{arith}
 use Rattle.status.proofs.Names.{from-set, from-clear, from-end}
 use Rattle.status.proofs.span.Range.next_set.Needs as need
 
