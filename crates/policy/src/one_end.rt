@@ -4,7 +4,7 @@ use crate::interface::Policy;
 ghost use mathlib.Core.Path.{_≡_};
 ghost use mathlib.Core.Bool.{true, false};
 ghost use Prim.Native.Nat.{_<_};
-ghost use lib.ListN.{length, replicate};
+ghost use lib.ListN.{length, set, replicate};
 ghost use Rattle.policy.specs.Ends.{Nearest};
 ghost use Rattle.policy.specs.Sets.{Chosen};
 
@@ -69,13 +69,19 @@ pub impl Policy for Sequential as SequentialPolicy {
         Self::PLACES
     }
 
-    fn offer(&mut self, place: Place) {
+    fn offer(&mut self, place: Place)
+        ensures set { λ _. ⌜ now (self .exit) .marks ≡ set (now (self .entry) .marks) (place .0) true ⌝ }
+        ensures end { λ _. ⌜ now (self .exit) .end ≡ now (self .entry) .end ⌝ }
+    {
         if place.0 < self.marks.len() {
             self.marks[place.0] = true;
         }
     }
 
-    fn withdraw(&mut self, place: Place) {
+    fn withdraw(&mut self, place: Place)
+        ensures set { λ _. ⌜ now (self .exit) .marks ≡ set (now (self .entry) .marks) (place .0) false ⌝ }
+        ensures end { λ _. ⌜ now (self .exit) .end ≡ now (self .entry) .end ⌝ }
+    {
         if place.0 < self.marks.len() {
             self.marks[place.0] = false;
         }
@@ -84,7 +90,8 @@ pub impl Policy for Sequential as SequentialPolicy {
     fn choose(&mut self) -> Option<Place>
         ensures same { λ _. ⌜ now (self .exit) .marks ≡ now (self .entry) .marks ⌝ }
         ensures member { λ r. ⌜ Chosen (now (self .entry) .marks) r ⌝ }
-        ensures end { λ r. ⌜ Nearest (now (self .entry) .end) (now (self .entry) .marks) r ⌝ }
+        ensures nearest { λ r. ⌜ Nearest (now (self .entry) .end) (now (self .entry) .marks) r ⌝ }
+        ensures kept { λ _. ⌜ now (self .exit) ≡ now (self .entry) ⌝ }
     {
         match self.end {
             End::Low => self.lowest(),
