@@ -6,4 +6,4 @@ pub returns-in-Ok : goal.returns-in-Ok
 returns-in-Ok c =
     let e = c.in-Ok.ensures.value in
     let b : ltb (length c.args.out.now) 8 ≡ false = grind (arith, nat_tests) in
-    record { value = rw (← e, b); after = rw (← e, b, c.copy-from-slice.ensures.after) (rw c.accepted-row.ensures) }
+    record { value = rw (← e, b); after = rw (← e, b, c.copy_from_slice.ensures.after) (rw c.accepted_row.ensures) }

@@ -9,11 +9,11 @@ pub returns-then-octets-lt3 : goal.returns-then-octets-lt3
 returns-then-octets-lt3 c =
     let xs = c.args.octets.now in
     let v = sym (decode_short xs c.if-octets-lt3.true) in
-    let o : get_or xs 0 0 < 256 = omega (arith, c.type-inv.octets 0) in
+    let o : get_or xs 0 0 < 256 = omega (arith, c.type_inv.octets 0) in
     record { value = v; format = reads_law xs _ o v }
 
 pub returns : goal.returns
 returns c =
-    let v : seen c.read-rest.result ≡ decode c.args.octets.now = search rules in
-    let o : get_or c.args.octets.now 0 0 < 256 = omega (arith, c.type-inv.octets 0) in
+    let v : seen c.read_rest.result ≡ decode c.args.octets.now = search rules in
+    let o : get_or c.args.octets.now 0 0 < 256 = omega (arith, c.type_inv.octets 0) in
     record { value = v; format = reads_law _ _ o v }

@@ -29,6 +29,6 @@ returns c =
     let l : length h + length t ≤ length c.args.out.now = omega arith in
     record {
       value = ap Ok (sym (length-append h t)) ∙ sym (room h t c.args.refusal _ l ∙ ap (unless_refused (h ++ t)) c.in-default.is);
-      after = both_put _ _ _ _ _ c.copy-from-slice.ensures.after c.copy-from-slice-2.ensures.after;
+      after = both_put _ _ _ _ _ c.copy_from_slice.ensures.after c.copy_from_slice-2.ensures.after;
       end = (refl, l);
     }

@@ -9,7 +9,7 @@ returns-in-Ok c =
     let p = c.in-Ok.ensures in
     record {
       value = p.value ∙ written_alike _ _ c.args.refusal _ (length-cleared h s c.args.group.range.0);
-      after = cleared_put h s c.args.out.now _ _ c.args.group.range.0 c.in-Ok.end p.end.0 p.after c.clear-spare.ensures.after;
+      after = cleared_put h s c.args.out.now _ _ c.args.group.range.0 c.in-Ok.end p.end.0 p.after c.clear_spare.ensures.after;
     }
 
 pub returns-in-Err : goal.returns-in-Err

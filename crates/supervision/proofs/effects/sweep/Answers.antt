@@ -8,7 +8,7 @@ use Rattle.supervision.specs.Trunks.{cic_at}
 use Rattle.supervision.proofs.Naming.{covers_below, covers_past, covers_in, unnamed, unequipped, acts}
 use Rattle.supervision.proofs.Stepping.{stands_from, stands_more, stands_skip, stands_all, told_short}
 use Rattle.supervision.proofs.effects.sweep.Goals as goal
-use Rattle.supervision.proofs.effects.sweep.Goals.{then-is-set+then-table-place, else-is-set, else-is-set-via-then-is-set+else-table-place, else-is-set-via-else-is-set}
+use Rattle.supervision.proofs.effects.sweep.Goals.{then-is_set+then-table-place, else-is_set, else-is_set-via-then-is_set+else-table-place, else-is_set-via-else-is_set}
 
 pub loop-n-init : goal.loop-n-init
 loop-n-init g c =
@@ -32,11 +32,11 @@ loop-n-preserved g c =
     let W = c.args.words.now in
     let in-range : k < length c.args.table.now = omega arith in
     let few : length (told_from c.args.trunk.config f 0 (take k c.args.table.now)) ≤ c.loop-n.n * 2 = rw (← c.loop-n.invariant.0.3) c.loop-n.invariant.1 in
-    let is : c.is-set.result ≡ named k = c.is-set.ensures ∙ sym (covers_in first c.args.group.range.0 c.args.group.status.now c.loop-n.n) in
+    let is : c.is_set.result ≡ named k = c.is_set.ensures ∙ sym (covers_in first c.args.group.range.0 c.args.group.status.now c.loop-n.n) in
     rw (← add_assoc first c.loop-n.n 1)
-    (elim c.if-is-set.branch [
-      | then-is-set+then-table-place w ↦
-          let e : f k x ≡ applied c.args.rule x = acts named rule k x (sym is ∙ w.if-is-set.true) w.if-table-place.true in
+    (elim c.if-is_set.branch [
+      | then-is_set+then-table-place w ↦
+          let e : f k x ≡ applied c.args.rule x = acts named rule k x (sym is ∙ w.if-is_set.true) w.if-table-place.true in
           let short = told_short (cic_at c.args.trunk.config k) (applied c.args.rule x) in (
             rw (w.table-is, w.policy-is, w.words-is, w.count-is)
                 (stands_more c.args.trunk.config f k c.args.table.now (g.P.Policy.held c.args.policy.now) W
@@ -47,11 +47,11 @@ loop-n-preserved g c =
                 (rw e w.visit-count.ensures.table) (rw e w.visit-count.ensures.held) (rw e w.visit-count.ensures.words) (rw e w.visit-count.ensures.count)),
             omega (arith, w.count-is, w.visit-count.ensures.count),
           )
-      | else-is-set w ↦
+      | else-is_set w ↦
           let q : f k x ≡ quiet x =
-          elim w.else-is-set.branch [
-            | else-is-set-via-then-is-set+else-table-place v ↦ unequipped named rule k x v.if-table-place.false
-            | else-is-set-via-else-is-set v ↦ unnamed named rule k x (sym is ∙ v.if-is-set.false)
+          elim w.else-is_set.branch [
+            | else-is_set-via-then-is_set+else-table-place v ↦ unequipped named rule k x v.if-table-place.false
+            | else-is_set-via-else-is_set v ↦ unnamed named rule k x (sym is ∙ v.if-is_set.false)
           ] in (
             rw (w.table-is, w.policy-is, w.words-is, w.count-is)
                 (stands_skip c.args.trunk.config f k c.args.table.now (g.P.Policy.held c.args.policy.now) W

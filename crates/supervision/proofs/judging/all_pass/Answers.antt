@@ -14,7 +14,7 @@ returns-then-not-passes c =
     let n = c.loop-n.n in
     let t = c.args.table.now in
     let p = λ (k : ℕ) (x : Circuit). covers first r s k && not (passes c.args.test x) in
-    let a : covers first r s (first + n) ≡ true = covers_in first r s n ∙ sym c.is-set.ensures ∙ c.if-is-set.true in
+    let a : covers first r s (first + n) ≡ true = covers_in first r s n ∙ sym c.is_set.ensures ∙ c.if-is_set.true in
     let b : passes c.args.test (get_or t (first + n) vacant) ≡ false = sym c.passes.ensures ∙ c.if-not-passes.true in
     rw (some p t (first + n) (omega arith) (rw (a, b) refl)) refl
 

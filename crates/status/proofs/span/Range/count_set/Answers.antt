@@ -11,20 +11,20 @@ use Rattle.status.proofs.span.Range.count_set.Goals as goal
 few : (x : ℕ) → x < 256 → ones x < 9
 few x h = omega (arith, ones-le 8 x h)
 
-pub overflow-add-count : goal.overflow-add-count
-overflow-add-count c =
-    let h : get_or c.args.status.now c.loop-at.at 0 < 256 = omega (arith, c.type-inv.status c.loop-at.at) in
+pub overflow_add-count : goal.overflow_add-count
+overflow_add-count c =
+    let h : get_or c.args.status.now c.loop-at.at 0 < 256 = omega (arith, c.type_inv.status c.loop-at.at) in
     omega (arith, few _ h)
 
 pub loop-at-preserved : goal.loop-at-preserved
 loop-at-preserved c =
-    let h : get_or c.args.status.now c.loop-at.at 0 < 256 = omega (arith, c.type-inv.status c.loop-at.at) in
+    let h : get_or c.args.status.now c.loop-at.at 0 < 256 = omega (arith, c.type_inv.status c.loop-at.at) in
     (omega (arith, octet_whole c.args.status.now c.loop-at.at h), omega (arith, few _ h))
 
-pub overflow-add-result : goal.overflow-add-result
-overflow-add-result c =
+pub overflow_add-result : goal.overflow_add-result
+overflow_add-result c =
     let x = get_or c.args.status.now (c.args.self.0 / 8) 0 in
-    let h : x < 256 = omega (arith, c.type-inv.status (c.args.self.0 / 8)) in
+    let h : x < 256 = omega (arith, c.type_inv.status (c.args.self.0 / 8)) in
     let m = 255 / 2 ^ (7 - c.args.self.0 % 8) in
     omega (arith, few (bit_and x m) (omega (arith, and_le_l x m)))
 

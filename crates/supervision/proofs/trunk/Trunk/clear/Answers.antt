@@ -26,11 +26,11 @@ returns g c =
     let move = ordered (slots system every_slot) rule msg in
     let before = lent T (g.P.Policy.held c.args.policy.now) c.args.words.now c.args.octets.now in
     let far : leb t.systems system ≡ false = lt-leb t.systems system (omega arith) in
-    let sent : meaning c.group-reset-message-message.result ≡ msg =
-    c.group-reset-message-message.ensures ∙ rw (add_assoc t.first.0 (system * 32) 1) refl in
+    let sent : meaning c.group_reset_message-message.result ≡ msg =
+    c.group_reset_message-message.ensures ∙ rw (add_assoc t.first.0 (system * 32) 1) refl in
     let names = named-slots system every_slot refl in
     let covered = covers (system * 32 + 1) 30 (status_of every_slot) in
-    let all : ordered covered rule (meaning c.group-reset-message-message.result) ≡ move =
+    let all : ordered covered rule (meaning c.group_reset_message-message.result) ≡ move =
     ap (λ (m : Msg). ordered covered rule m) sent ∙ ap (λ (f : ℕ → Bool). ordered f rule msg) names in
     let after = c.perform.ensures.after ∙ ap (λ (m : Move). carried t m before) all in
     rw far

@@ -11,13 +11,13 @@ returns g c =
     let ws = c.args.equipment.now in
     let room = g.P.Policy.room in
     let n = length c.args.table.now in
-    let fits : fits_trunk c.args.first.0 ws n ≡ true = sym c.fits-trunk.ensures.value ∙ c.if-not-fits-trunk.false in
+    let fits : fits_trunk c.args.first.0 ws n ≡ true = sym c.fits_trunk.ensures.value ∙ c.if-not-fits_trunk.false in
     let enough : n ≤ room = omega (arith, c.most.ensures) in
     let long : ltb room n ≡ false = le-ltb room n enough in
     let size : length (open_table ws) ≡ length ws * 32 = length-map-range_with_len (λ k. fresh (equipped_at ws k)) 0 (length ws * 32) in
-    let held = c.offer-open.ensures ∙ ap (open_set room) c.fill.ensures in
+    let held = c.offer_open.ensures ∙ ap (open_set room) c.fill.ensures in
     record {
       value = rw (fits, long) refl;
       after = (c.fill.ensures, held);
-      laws = rw (held, c.fill.ensures) (open_sound ws, open_set_lem room (open_table ws) (omega (arith, c.fits-trunk.ensures.fits c.if-not-fits-trunk.false)), open_fresh ws);
+      laws = rw (held, c.fill.ensures) (open_sound ws, open_set_lem room (open_table ws) (omega (arith, c.fits_trunk.ensures.fits c.if-not-fits_trunk.false)), open_fresh ws);
     }

@@ -16,8 +16,8 @@ returns-in-Err g c =
     let t = c.args.self.config in
     let msg = grouped (first_of t c.args.system) c.args.what (indicator_of c.args.why) 30 (status_of c.args.mask) in
     let even : c.args.mask % 2 ≡ 0 = omega arith in
-    let a = group_answer t c.args.system c.args.mask c.args.rule msg c.args.table.now c.to-le-bytes-status.result (Err c.in-Err.refusal)
-    (omega arith) even c.to-le-bytes-status.ensures c.in-Err.ensures in
+    let a = group_answer t c.args.system c.args.mask c.args.rule msg c.args.table.now c.to_le_bytes-status.result (Err c.in-Err.refusal)
+    (omega arith) even c.to_le_bytes-status.ensures c.in-Err.ensures in
     rw a (record { done = (refl, refl); laws = refl; within = tt; group = refl })
 
 pub returns-in-Ok : goal.returns-in-Ok
@@ -26,14 +26,14 @@ returns-in-Ok g c =
     let T = c.args.table.now in
     let msg = grouped (first_of t c.args.system) c.args.what (indicator_of c.args.why) 30 (status_of c.args.mask) in
     let even : c.args.mask % 2 ≡ 0 = omega arith in
-    let a : groupwise t c.args.system c.args.mask c.args.rule msg T ≡ Ok (ordered (covers (c.args.system * 32 + 1) 30 c.to-le-bytes-status.result) c.args.rule msg) =
-    group_answer t c.args.system c.args.mask c.args.rule msg T c.to-le-bytes-status.result (Ok tt)
-    (omega arith) even c.to-le-bytes-status.ensures c.in-Ok.ensures in
-    let named = covers (c.args.system * 32 + 1) 30 c.to-le-bytes-status.result in
+    let a : groupwise t c.args.system c.args.mask c.args.rule msg T ≡ Ok (ordered (covers (c.args.system * 32 + 1) 30 c.to_le_bytes-status.result) c.args.rule msg) =
+    group_answer t c.args.system c.args.mask c.args.rule msg T c.to_le_bytes-status.result (Ok tt)
+    (omega arith) even c.to_le_bytes-status.ensures c.in-Ok.ensures in
+    let named = covers (c.args.system * 32 + 1) 30 c.to_le_bytes-status.result in
     let before = lent T (g.P.Policy.held c.args.policy.now) c.args.words.now c.args.octets.now in
     let after = lent c.perform.new.table (g.P.Policy.held c.perform.new.policy) c.perform.new.words c.perform.new.octets in
-    let sent : grouped (t.first.0 + (c.args.system * 32 + 1)) c.args.what (indicator_of c.args.why) 30 c.to-le-bytes-status.result ≡ msg =
-    rw (c.to-le-bytes-status.ensures, add_assoc t.first.0 (c.args.system * 32) 1) refl in
+    let sent : grouped (t.first.0 + (c.args.system * 32 + 1)) c.args.what (indicator_of c.args.why) 30 c.to_le_bytes-status.result ≡ msg =
+    rw (c.to_le_bytes-status.ensures, add_assoc t.first.0 (c.args.system * 32) 1) refl in
     let d : Done t (groupwise t c.args.system c.args.mask c.args.rule msg T) (Ok c.perform.result) before after =
     rw a (
       ap Ok (c.perform.ensures.counts ∙ ap (λ (m : Msg). counts_of t (ordered named c.args.rule m) before) sent),
