@@ -9,10 +9,10 @@ loop-rest-preserved-then-rest-eq32 c =
     ∙ ap (onto (vec_items c.loop-rest.octets)) (sym (past_space c.loop-rest.rest.now c.loop-rest-test.true c.if-rest-eq32.true))
     ∙ c.loop-rest.invariant
 
-pub returns-in-default : goal.returns-in-default
-returns-in-default c =
+pub returns-in_default : goal.returns-in_default
+returns-in_default c =
     sym (ap (onto (vec_items c.loop-rest.octets))
-    (past_other c.loop-rest.rest.now c.loop-rest-test.true c.if-rest-eq32.false (sym c.in-default.ensures)))
+    (past_other c.loop-rest.rest.now c.loop-rest-test.true c.if-rest-eq32.false (sym c.in_default.ensures)))
     ∙ c.loop-rest.invariant
 
 pub loop-rest-preserved : goal.loop-rest-preserved

@@ -28,7 +28,7 @@ returns c =
     let t = c.args.tail.now in
     let l : length h + length t ≤ length c.args.out.now = omega arith in
     record {
-      value = ap Ok (sym (length-append h t)) ∙ sym (room h t c.args.refusal _ l ∙ ap (unless_refused (h ++ t)) c.in-default.is);
+      value = ap Ok (sym (length-append h t)) ∙ sym (room h t c.args.refusal _ l ∙ ap (unless_refused (h ++ t)) c.in_default.is);
       after = both_put _ _ _ _ _ c.copy_from_slice.ensures.after c.copy_from_slice-2.ensures.after;
       end = (refl, l);
     }

@@ -2,6 +2,6 @@ use mathlib.Core.Logic.{∥∥₁_map}
 use Rattle.policy.specs.Orders.{offered}
 use Rattle.policy.proofs.release.ReleaseOrderPolicy.offer.Goals as goal
 
-pub invariant-of-self : goal.invariant-of-self
-invariant-of-self c =
-    (∥∥₁_map c.args.self.now.ok (λ z. (offered c.args.place.0 z.0, c.offer.ensures.order z.0 z.1)), tt)
+pub invariant_of-self : goal.invariant_of-self
+invariant_of-self c =
+    record { ok = ∥∥₁_map c.args.self.now.ok (λ z. (offered c.args.place.0 z.0, c.offer.ensures.order z.0 z.1)) }
