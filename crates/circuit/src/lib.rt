@@ -1,4 +1,5 @@
 // One circuit: its record, and what each rule does to it.
+#![tactic(auto)]
 mod record;
 mod rules;
 

@@ -1,4 +1,5 @@
 // Traces of messages: hexadecimal lines in, one line of explanation out.
+#![tactic(auto)]
 mod hex;
 mod words;
 

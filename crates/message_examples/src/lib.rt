@@ -1,4 +1,5 @@
 // Worked examples of written messages, run as tests.
+#![tactic(auto)]
 #[cfg(test)]
 mod tests {
     use message::{BlockType, CallKind, Grouped, Message, MessageFault, Single, write};

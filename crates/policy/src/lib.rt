@@ -1,4 +1,5 @@
 // Selection policies: which circuit the next call takes.
+#![tactic(auto)]
 mod interface;
 mod linking;
 mod links;

@@ -1,4 +1,5 @@
 // Why an operation is refused, and messages read with these refusals.
+#![tactic(auto)]
 mod reading;
 mod reasons;
 

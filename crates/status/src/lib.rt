@@ -1,4 +1,5 @@
 // Circuit identification codes, ranges of circuits and the status bits of a range.
+#![tactic(auto)]
 mod circuit;
 mod fault;
 mod naming;

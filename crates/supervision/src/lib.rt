@@ -1,4 +1,5 @@
 // Supervision of the circuits of a trunk: opening, and the orders of our side.
+#![tactic(auto)]
 mod addressing;
 mod effects;
 mod group;

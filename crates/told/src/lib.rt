@@ -1,4 +1,5 @@
 // The words that a host is told: calls that began and ended, messages to send, alerts.
+#![tactic(auto)]
 mod kinds;
 
 pub use kinds::{Direction, EndCause, Timer, Word};

@@ -1,4 +1,5 @@
 // Compares our reader with another one: each line of standard input has a message and what the other reader said of it.
+#![tactic(auto)]
 use explain::{Explanation, hex_octets, without_end};
 use message::{Message, read, write};
 use std::alloc::{AllocError, Global};
