@@ -1,5 +1,6 @@
 // One circuit: its record, and what each rule does to it.
 #![tactic(auto)]
+
 mod record;
 mod rules;
 

@@ -1,5 +1,6 @@
 // A console for a trunk: orders on standard input, one to a line, and on standard output what each did.
 #![tactic(auto)]
+
 mod desk;
 mod numerals;
 mod order;

@@ -1,5 +1,6 @@
 // Traces of messages: hexadecimal lines in, one line of explanation out.
 #![tactic(auto)]
+
 mod hex;
 mod words;
 

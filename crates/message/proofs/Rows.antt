@@ -1,11 +1,11 @@
 -- Each row of the table: the layout that is tested is the layout that is said.
-use Rattle.std.proofs.Common.{◌≡◌, ℕ, ◌+◌, ◌*◌, ◌/◌, ◌%◌, ◌≤◌, Bool, true, cond, ◌&&◌, ◌||◌, eqb, leb, ◌⊎◌, List, [], ◌∷◌, ◌++◌, length, get_or, take, drop, Some, None, refl, ap, ◌∙◌, subst, inl, inr, arith, length-append}
+use Rattle.std.proofs.Common.{◌≡◌, ℕ, ◌+◌, ◌*◌, ◌/◌, ◌%◌, ◌≤◌, Bool, true, cond, ◌&&◌, ◌||◌, eqb, leb, ◌⊎◌, List, [], ◌∷◌, ◌++◌, length, get_or, take, drop, Some, None, refl, ◌∙◌, subst, inl, inr, arith, length-append}
 use Rattle.std.proofs.lemmas.List.{nil_from_length, take_all, take_at, length-drop}
 use Rattle.std.proofs.lemmas.Bool.Decides.{nat_tests}
 use Rattle.status.specs.Bits.{octets_for}
 use Rattle.status.specs.Parameter as group
 use Rattle.message.proofs.Lists.{passed, first_two, first_three}
-use Rattle.message.specs.Decode.{laid_out_as, release_laid_out, as_group_reset, as_group_reset_ack, as_grouped, as_release}
+use Rattle.message.specs.Decode.{laid_out_as, release_laid_out, as_group_reset_ack, as_grouped, as_release}
 use Rattle.message.specs.Format.{Parameter, Follows}
 use Rattle.message.specs.Msg.{Msg, single, release_complete, group_reset, group_reset_ack, grouped, release, call, cic_in, kind_in}
 use Rattle.message.specs.Types.{Kind}

@@ -1,5 +1,6 @@
 // Supervision messages of a Q.767 trunk: what the octets of one say, and the octets of one.
 #![tactic(auto)]
+
 mod content;
 mod fault;
 mod kinds;

@@ -1,5 +1,6 @@
 // Worked examples of written messages, run as tests.
 #![tactic(auto)]
+
 #[cfg(test)]
 mod tests {
     use message::{BlockType, CallKind, Grouped, Message, MessageFault, Single, write};

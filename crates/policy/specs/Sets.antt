@@ -1,5 +1,5 @@
 -- A policy's set, as a mark for each place, and what is done to it.
-use Rattle.std.specs.Prelude.{◌≡◌, ℕ, Bool, true, false, cond, List, [], ◌∷◌, set, Some, None, Option, ◌==◌, slice_index_or, slice_set}
+use Rattle.std.specs.Prelude.{◌≡◌, ℕ, Bool, true, false, cond, List, [], ◌∷◌, Some, None, Option, ◌==◌, slice_index_or, slice_set}
 use Rattle.policy.specs.declared.interface.Place.{Place}
 use Rattle.policy.specs.declared.interface.Word.{Word}
 use Rattle.policy.specs.declared.interface.Word.TheVariants.{Offer, Withdraw}

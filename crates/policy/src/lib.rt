@@ -1,5 +1,6 @@
 // Selection policies: which circuit the next call takes.
 #![tactic(auto)]
+
 mod interface;
 mod linking;
 mod links;

@@ -1,5 +1,6 @@
 // The reader for callers of C: what a message says, in plain numbers.
 #![tactic(auto)]
+
 ghost use Rattle.std.specs.Prelude.{◌≡◌, ◌-◌, length, slice_index};
 ghost use Rattle.message.specs.Decode.{decode};
 ghost use Rattle.message.specs.Meaning.{meaning};

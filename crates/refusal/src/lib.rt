@@ -1,5 +1,6 @@
 // Why an operation is refused, and messages read with these refusals.
 #![tactic(auto)]
+
 mod reading;
 mod reasons;
 

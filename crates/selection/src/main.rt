@@ -1,5 +1,6 @@
 // Plays offers and withdrawals through the policies, and shows what each would choose.
 #![tactic(auto)]
+
 use policy::{End, Place, Policy, ReleaseOrder, Sequential, Word, follow};
 use std::fmt;
 

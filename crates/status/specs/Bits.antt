@@ -1,5 +1,5 @@
 -- The status of a range: a bit for each circuit, lowest first.
-use Rattle.std.specs.Prelude.{◌≡◌, ℕ, zero, suc, ◌+◌, ◌/◌, ◌%◌, ◌^◌, ◌≤◌, Bool, ◌&&◌, List, set, ◌==◌, nat_le, slice_index, slice_set}
+use Rattle.std.specs.Prelude.{◌≡◌, ℕ, zero, suc, ◌+◌, ◌/◌, ◌%◌, ◌^◌, ◌≤◌, Bool, ◌&&◌, List, ◌==◌, nat_le, slice_index, slice_set}
 
 -- a bit for each of r + 1 circuits, rounded up to whole octets
 abbrev pub octets_for : ℕ → ℕ

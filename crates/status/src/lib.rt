@@ -1,5 +1,6 @@
 // Circuit identification codes, ranges of circuits and the status bits of a range.
 #![tactic(auto)]
+
 mod circuit;
 mod fault;
 mod naming;

@@ -1,5 +1,5 @@
 -- The steps that the code takes, one place or one word at a time.
-use Rattle.std.specs.Prelude.{◌≡◌, ℕ, suc, ◌-◌, Bool, true, false, ◌&&◌, List, [], ◌∷◌, map, length, set, nat_le, slice_set}
+use Rattle.std.specs.Prelude.{◌≡◌, ℕ, suc, ◌-◌, Bool, true, false, ◌&&◌, List, [], ◌∷◌, map, length, nat_le, slice_set}
 use Rattle.status.specs.Bits.{is_named}
 use Rattle.told.specs.Words.{number_of}
 use Rattle.circuit.specs.declared.record.Circuit.{Circuit}

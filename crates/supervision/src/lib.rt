@@ -1,5 +1,6 @@
 // Supervision of the circuits of a trunk: opening, and the orders of our side.
 #![tactic(auto)]
+
 mod addressing;
 mod effects;
 mod group;

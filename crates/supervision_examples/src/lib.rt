@@ -1,5 +1,6 @@
 // Worked sessions of supervision: shown of the definitions, and run as tests.
 #![tactic(auto)]
+
 ghost use Rattle.supervision_examples.specs.Sessions.{Sessions};
 ghost use Rattle.supervision_examples.specs.Shown.{ReceivedLawful, ExpiredLawful};
 

@@ -1,5 +1,6 @@
 // The words that a host is told: calls that began and ended, messages to send, alerts.
 #![tactic(auto)]
+
 mod kinds;
 
 pub use kinds::{Direction, EndCause, Timer, Word};

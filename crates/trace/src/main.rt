@@ -1,5 +1,6 @@
 // Explains a trace: one message to a line of standard input as hexadecimal octets, one line of explanation each.
 #![tactic(auto)]
+
 use explain::{Explanation, HexOctets, hex_octets, without_end};
 use message::read;
 use std::alloc::Global;

@@ -1,5 +1,6 @@
 // Compares our reader with another one: each line of standard input has a message and what the other reader said of it.
 #![tactic(auto)]
+
 use explain::{Explanation, hex_octets, without_end};
 use message::{Message, read, write};
 use std::alloc::{AllocError, Global};

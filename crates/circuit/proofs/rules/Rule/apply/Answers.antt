@@ -1,1 +1,0 @@
-use Rattle.circuit.proofs.rules.Rule.apply.Goals as goal
