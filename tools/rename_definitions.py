@@ -12,11 +12,14 @@ import sys
 NAME = re.compile(r"[A-Za-z_][\w'\u2032-]*")
 SIGNATURE = re.compile(
     r"^ *(?:(?:abbrev|unfoldable|pub|record|data) )*([a-z][\w'\u2032-]*)((?: \([^()]*(?:\([^()]*\)[^()]*)*\)| \{[^}]*\})*) :(.*)$", re.M)
-CASE = re.compile(r"^ *\| ", re.M)
 STRING = re.compile(r'b?"(?:[^"\\]|\\.)*"')
-# lemmas that would have the name of the function they speak of
+# lemmas that would have the name of the function they speak of, and names that are no two functions
 APART = {
+    "cleared-same": "cleared_same",
+    "kept-kept": "kept_kept",
     "last-of": "last_of_lem",
+    "left-named": "left_named",
+    "named-same": "named_same",
     "open-set": "open_set_lem",
     "settled_at": "settled_at_lem",
     "settledAt-same": "settled_at_same",

@@ -1,7 +1,7 @@
 -- What is written is read back.
 use Rattle.std.proofs.Common.{◌≡◌, ℕ, ◌+◌, ◌*◌, ◌/◌, ◌%◌, ◌<◌, ◌≤◌, Bool, true, false, cond, ◌&&◌, leb, List, ◌∷◌, length, Some, None, Ok, Err, Option, Result, sym, refl, ◌∙◌, inl, true≢false, arith, length-set}
 use Rattle.std.proofs.lemmas.Bool.Decides.{nat_tests}
-use Rattle.status.proofs.Cleared.{cleared-same}
+use Rattle.status.proofs.Cleared.{cleared_same}
 use Rattle.status.proofs.Names.{count_same}
 use Rattle.status.specs.Bits.{octets_for, cleared}
 use Rattle.status.specs.Circuits.{cic_of}
@@ -21,7 +21,7 @@ length-cleared r s = simp length-set
 
 -- the limits do not look at spare bits
 group_within : (n r : ℕ) (s : List ℕ) → group.within n r (cleared r s) ≡ group.within n r s
-group_within n r s = let e = count_same s (cleared r s) r (cleared-same r s) in rw (← e)
+group_within n r s = let e = count_same s (cleared r s) r (cleared_same r s) in rw (← e)
 
 pub within-plain : (m : Msg) → within (plain m) ≡ within m
 within-plain (single c k) = refl

@@ -103,9 +103,9 @@ kept_push f (z ∷ zs) p = go (f z) (f p) (kept_push f zs p)
     go false false e = rw e
 
 -- two filters, one after the other, in either order
-pub kept-kept : (f g : ℕ → Bool) (zs : List ℕ) → filter f (filter g zs) ≡ filter g (filter f zs)
-kept-kept f g [] = refl
-kept-kept f g (z ∷ zs) = go (f z) (g z) refl refl (kept-kept f g zs)
+pub kept_kept : (f g : ℕ → Bool) (zs : List ℕ) → filter f (filter g zs) ≡ filter g (filter f zs)
+kept_kept f g [] = refl
+kept_kept f g (z ∷ zs) = go (f z) (g z) refl refl (kept_kept f g zs)
   where
     go : (b c : Bool) → f z ≡ b → g z ≡ c → filter f (filter g zs) ≡ filter g (filter f zs) →
         filter f (cond c (z ∷ filter g zs) (filter g zs)) ≡ filter g (cond b (z ∷ filter f zs) (filter f zs))

@@ -4,7 +4,7 @@ use Rattle.std.proofs.Common.{sym, ◌∙◌, subst, inl, inr, arith, length-set
 use Rattle.std.proofs.lemmas.List.{get_or_past, get_or-replicate, length-replicate}
 use Rattle.std.proofs.lemmas.Bool.{cases_lt, false≢true}
 use Rattle.std.proofs.lemmas.Bool.Decides.{nat_tests, eqb_tells}
-use Rattle.policy.specs.Members.{out_head, out_cons, in_cases, in_head, in_tail, has_push, once_push, kept_in, in_kept, out_kept, not_kept, once_kept, kept_push, kept-kept, without_absent, has_without}
+use Rattle.policy.specs.Members.{out_head, out_cons, in_cases, in_head, in_tail, has_push, once_push, kept_in, in_kept, out_kept, not_kept, once_kept, kept_push, kept_kept, without_absent, has_without}
 use Rattle.policy.specs.Runs.{run_newer, run_older, run_push, run_without, last_in, before_in, after_in}
 use Rattle.policy.specs.Orders.{has, Once, Run, withdrawn, controlled, uncontrolled, end_for}
 
@@ -109,7 +109,7 @@ module _ (ms : List Bool) (ns os : List ℕ) (zs : List ℕ) (S E : ℕ) (f g : 
   own_without p o w i y eo ew r =
       let a = line_small o (older_on p o i y eo r) in
       let b = line_small w (newer_on p w i y ew r) in
-      subst (λ (xs : List ℕ). Run (slice_set ns o w) (slice_set os w o) S xs S) (kept-kept (λ (k : ℕ). not (k == p)) g zs)
+      subst (λ (xs : List ℕ). Run (slice_set ns o w) (slice_set os w o) S xs S) (kept_kept (λ (k : ℕ). not (k == p)) g zs)
       (run_without ns os S (filter g zs) S o w p (omega arith) (omega arith) eo ew line_once (end_out g S hs) (in_kept g zs p i y) r)
 
   other_without : (p o w : ℕ) → has zs p ≡ true → g p ≡ true → slice_index os p ≡ o → slice_index ns p ≡ w → Run ns os S (filter g zs) S →
@@ -118,7 +118,7 @@ module _ (ms : List Bool) (ns os : List ℕ) (zs : List ℕ) (S E : ℕ) (f g : 
       let a = not_other o (older_on p o i y eo r) in
       let b = out_head E (filter f zs) w (not_other w (newer_on p w i y ew r)) in
       let q : filter f zs ≡ filter f (withdrawn p zs) =
-      sym (without_absent (filter f zs) p (not_kept f zs p (opposite p y))) ∙ kept-kept (λ (k : ℕ). not (k == p)) f zs in
+      sym (without_absent (filter f zs) p (not_kept f zs p (opposite p y))) ∙ kept_kept (λ (k : ℕ). not (k == p)) f zs in
       subst (λ (xs : List ℕ). Run (slice_set ns o w) (slice_set os w o) E xs E) q
       (run_older (slice_set ns o w) os E (filter f zs) E w o b.1 b.0 (run_newer ns os E (filter f zs) E o w a s))
 

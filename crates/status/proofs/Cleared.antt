@@ -27,8 +27,8 @@ bit_high x j i h =
     let z : x % 2 ^ (j + 1) < 2 ^ i = omega arith in
     rw (div-eq_of_lt z)
 
-pub cleared-same : (r : ℕ) (xs : List ℕ) → SameBits r xs (cleared r xs)
-cleared-same r xs k h =
+pub cleared_same : (r : ℕ) (xs : List ℕ) → SameBits r xs (cleared r xs)
+cleared_same r xs k h =
     elim (cases_eq (k / 8) (r / 8)) [
       | inl p ↦ elim (cases_lt (r / 8) (length xs)) [
         | inl l ↦ rw (p, get_or-set_same, bit_low (get_or xs (r / 8) 0) (r % 8) (k % 8) (omega arith))

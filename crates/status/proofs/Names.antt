@@ -55,9 +55,9 @@ set_same xs ys r (suc n) s h = rw (set_same xs ys r n s (omega arith), s n (omeg
 pub count_same : (xs ys : List ℕ) (r : ℕ) → SameBits r xs ys → set_bits xs (r + 1) ≡ set_bits ys (r + 1)
 count_same xs ys r s = set_same xs ys r (r + 1) s (omega arith)
 
-named-same : (m : ℕ) (xs ys : List ℕ) (r k n : ℕ) → SameBits r xs ys → k + n ≤ r + 1 → named m xs k n ≡ named m ys k n
-named-same m xs ys r k zero s h = refl
-named-same m xs ys r k (suc n) s h = rw (s k (omega arith), named-same m xs ys r (suc k) n s (omega arith))
+named_same : (m : ℕ) (xs ys : List ℕ) (r k n : ℕ) → SameBits r xs ys → k + n ≤ r + 1 → named m xs k n ≡ named m ys k n
+named_same m xs ys r k zero s h = refl
+named_same m xs ys r k (suc n) s h = rw (s k (omega arith), named_same m xs ys r (suc k) n s (omega arith))
 
 pub names_same : (m : ℕ) (xs ys : List ℕ) (r : ℕ) → SameBits r xs ys → circuits_of m r xs ≡ circuits_of m r ys
-names_same m xs ys r s = named-same m xs ys r 0 (r + 1) s (omega arith)
+names_same m xs ys r s = named_same m xs ys r 0 (r + 1) s (omega arith)

@@ -1,7 +1,7 @@
 // The circuits that a status names.
 ghost use Rattle.std.specs.Prelude.{◌≡◌, ℕ, List, [], ◌∷◌, length, MatchOption};
 ghost use Rattle.status.specs.Bits.{SameBits};
-ghost use Rattle.status.specs.Naming.{circuits_of, left-named, NextSet};
+ghost use Rattle.status.specs.Naming.{circuits_of, left_named, NextSet};
 ghost use Rattle.std.specs.Iterator.{at_most};
 
 use crate::circuit::Cic;
@@ -20,8 +20,8 @@ pub struct Named<'a> {
 impl Range {
     // The circuits of the range from `first` on whose bits are set, rising.
     pub fn named(self, first: Cic, status: &[u8]) -> Named<'_>
-        ensures value { left-named result ≡ circuits_of first.0 self.0 status.now }
-        ensures spare { (xs : List ℕ) → SameBits self.0 status.now xs → left-named result ≡ circuits_of first.0 self.0 xs }
+        ensures value { left_named result ≡ circuits_of first.0 self.0 status.now }
+        ensures spare { (xs : List ℕ) → SameBits self.0 status.now xs → left_named result ≡ circuits_of first.0 self.0 xs }
     {
         Named {
             first,
@@ -47,9 +47,9 @@ impl Range {
 impl Iterator for Named<'_> {
     type Item = Cic;
 
-    ghost next_gives = { λ s r t. MatchOption r ((left-named s ≡ []) × (t ≡ s)) (λ x. left-named s ≡ x ∷ left-named t) };
+    ghost next_gives = { λ s r t. MatchOption r ((left_named s ≡ []) × (t ≡ s)) (λ x. left_named s ≡ x ∷ left_named t) };
 
-    ghost remaining = { λ s. at_most (length (left-named s)) };
+    ghost remaining = { λ s. at_most (length (left_named s)) };
 
     fn next(&mut self) -> Option<Cic> {
         match self.range.next_set(self.status, self.next) {
