@@ -1,5 +1,5 @@
 // What every policy is: a set of places, and one of them to take next.
-ghost use Rattle.std.specs.Prelude.{◌≡◌, ℕ, ◌<◌, Bool, true, false, List, length, set, slice_index_or, slice_set};
+ghost use Rattle.std.specs.Prelude.{◌≡◌, ℕ, ◌<◌, Bool, true, false, List, length, slice_index_or, slice_set};
 ghost use Rattle.policy.specs.Sets.{Chosen, after, last_word};
 
 // A place in the table of circuit records. It is no CIC.

@@ -1,5 +1,5 @@
 // Places linked in release order: in, out, and the next to choose.
-ghost use Rattle.std.specs.Prelude.{◌≡◌, ℕ, ◌<◌, Bool, true, false, List, [], set, replicate, slice_index, slice_index_or, slice_set};
+ghost use Rattle.std.specs.Prelude.{◌≡◌, ℕ, ◌<◌, Bool, true, false, List, [], replicate, slice_index, slice_index_or, slice_set};
 ghost use Rattle.policy.specs.Orders.{Ordered, newers, olders, marks, end_for, offered, withdrawn, preferred};
 
 use crate::interface::Place;

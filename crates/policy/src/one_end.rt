@@ -1,8 +1,8 @@
 // Method 1: a mark for each place, looked at from one end.
-ghost use Rattle.std.specs.Prelude.{◌≡◌, ◌<◌, true, false, length, set, replicate, slice_set};
+ghost use Rattle.std.specs.Prelude.{◌≡◌, ◌<◌, true, false, length, replicate, slice_set};
 ghost use Rattle.policy.specs.Ends.{Nearest};
 ghost use Rattle.policy.specs.Sets.{Chosen};
-ghost use Rattle.std.proofs.Common.{rules, arith};
+ghost use Rattle.std.proofs.Common.{rules};
 
 use crate::interface::{Place, Policy};
 
@@ -63,7 +63,7 @@ impl Policy for Sequential {
 
     ghost held = { λ s. s.marks };
 
-    ghost sized = { first_of (Prim.search rules, Prim.grind (arith, Self.row.coded.inj)) };
+    ghost sized = { Prim.search rules };
 
     fn most() -> usize {
         Self::PLACES

@@ -1,5 +1,5 @@
 // Method 2: release order, controlled circuits first.
-ghost use Rattle.std.specs.Prelude.{◌≡◌, ℕ, true, false, List, [], set, replicate, slice_set};
+ghost use Rattle.std.specs.Prelude.{◌≡◌, ℕ, true, false, List, [], replicate, slice_set};
 ghost use Rattle.policy.specs.Orders.{InOrder, Ordered, marks, offered, withdrawn, preferred};
 ghost use Rattle.policy.specs.Sets.{Chosen};
 ghost use Rattle.policy.specs.Keeping.{marks-length};
