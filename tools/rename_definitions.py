@@ -27,7 +27,7 @@ APART = {
     "written_at": "written_at_lem",
 }
 # names of imports
-ALIASES = {"groupWithin": "is_group_within"}
+ALIASES = {"groupWithin": "is_group_within", "Chosen-place": "ChosenPlace"}
 # functions of the library, and operators, that stand in names of lemmas
 LIBRARY = {"length", "take", "drop", "set", "append", "cons", "ones", "map", "filter", "sum", "replicate", "get_or"}
 

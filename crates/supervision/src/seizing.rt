@@ -1,7 +1,7 @@
 // A call that begins here.
 ghost use Rattle.std.specs.Prelude.{◌≡◌, ◌+◌, ◌*◌, ◌<◌, ◌≤◌, true, length, IfOk, Option as Maybe, nat_eq};
 ghost use Rattle.policy.specs.Sets.{Chosen};
-ghost use Rattle.policy.specs.declared.interface.Place.{Place as Chosen-place};
+ghost use Rattle.policy.specs.declared.interface.Place.{Place as ChosenPlace};
 ghost use Rattle.message.specs.Msg.{call};
 ghost use Rattle.circuit.specs.Circuits.{is_open};
 ghost use Rattle.supervision.specs.Laws.{placed};
@@ -21,7 +21,7 @@ use status::Cic;
 // The place of the policy's choice, which has to be open.
 fn pick<P: Policy>(table: &[Circuit], policy: &mut P) -> Result<Place, Refusal>
     ensures same { P.Policy.held policy.new ≡ P.Policy.held policy.old }
-    ensures value { (choice : Maybe Chosen-place) × Chosen (P.Policy.held policy.old) choice × (result ≡ seizable choice table.now) }
+    ensures value { (choice : Maybe ChosenPlace) × Chosen (P.Policy.held policy.old) choice × (result ≡ seizable choice table.now) }
     ensures found { IfOk result (λ p. (p.0 < length table.now) × (is_open (placed table.now p.0) ≡ true)) }
 {
     let Some(place) = policy.choose() else {
