@@ -1,0 +1,16 @@
+// The static library for callers of C: the reader of `reader_abi` under its name.
+#![tactic(auto)]
+
+ghost use Rattle.std.specs.Prelude.{◌≡◌, length};
+ghost use Rattle.message.specs.Decode.{decode};
+ghost use Rattle.reader_abi.specs.Report.{answer, reported};
+
+// Reads the octets, and writes what they say to the front of `out`. Answers 0, the number of the
+// refusal, or 3 where `out` is too short.
+#[unsafe(no_mangle)]
+pub extern "C" fn setsvoku_read(octets: &[u8], out: &mut [u64]) -> u32
+    ensures value { result ≡ answer (decode octets.now) (length out.old) }
+    ensures after { out.new ≡ reported (decode octets.now) out.old }
+{
+    reader_abi::setsvoku_read(octets, out)
+}
