@@ -79,38 +79,30 @@ fn words_of(heap: Global, line: &[u8]) -> Result<Vec<&[u8]>, AllocError> {
 // The order of a line, or `None` where there is no such order.
 pub(crate) fn read_order(heap: Global, line: &[u8]) -> Result<Option<Order>, AllocError> {
     let words = words_of(heap, line)?;
-    let [name, arguments @ ..] = words.as_slice() else {
-        return Ok(None);
-    };
-    if is_word(name, b"open") {
-        return read_opening(heap, arguments);
-    }
-    if is_word(name, b"seize") {
-        return read_seizure(heap, arguments);
-    }
-    if is_word(name, b"show") {
-        return Ok(read_show(arguments));
-    }
-    let Some(verb) = read_verb(name) else {
-        return Ok(None);
-    };
-    match read_operation(verb, arguments) {
-        Some(operation) => Ok(Some(Order::Operate(operation))),
-        None => Ok(None),
+    match words.as_slice() {
+        [b"open", first, side, method, equipment @ ..] => {
+            read_opening(heap, first, side, method, equipment)
+        }
+        [b"seize", body @ ..] => read_seizure(heap, body),
+        [b"show", cic] => Ok(read_show(cic)),
+        others => match read_operation(others) {
+            Some(operation) => Ok(Some(Order::Operate(operation))),
+            None => Ok(None),
+        },
     }
 }
 
-fn read_show(arguments: &[&[u8]]) -> Option<Order> {
-    let [cic] = arguments else {
-        return None;
-    };
+fn read_show(cic: &[u8]) -> Option<Order> {
     Some(Order::Show(decimal_cic(cic)?))
 }
 
-fn read_opening(heap: Global, arguments: &[&[u8]]) -> Result<Option<Order>, AllocError> {
-    let [first, side, method, words @ ..] = arguments else {
-        return Ok(None);
-    };
+fn read_opening(
+    heap: Global,
+    first: &[u8],
+    side: &[u8],
+    method: &[u8],
+    words: &[&[u8]],
+) -> Result<Option<Order>, AllocError> {
     let (Some(first), Some(higher), Some(method)) = (
         decimal_cic(first),
         read_side(side),
@@ -164,59 +156,24 @@ fn read_seizure(heap: Global, words: &[&[u8]]) -> Result<Option<Order>, AllocErr
     Ok(Some(Order::Operate(Operation::Seize(body))))
 }
 
-// An operation that holds no list, by its name.
-#[derive(Clone, Copy)]
-enum Verb {
-    Release,
-    Block,
-    Unblock,
-    Reset,
-    GroupBlock,
-    GroupUnblock,
-    GroupReset,
-}
-
-fn is_word(word: &[u8], name: &[u8]) -> bool {
-    word == name
-}
-
-fn read_verb(word: &[u8]) -> Option<Verb> {
-    if is_word(word, b"release") {
-        Some(Verb::Release)
-    } else if is_word(word, b"block") {
-        Some(Verb::Block)
-    } else if is_word(word, b"unblock") {
-        Some(Verb::Unblock)
-    } else if is_word(word, b"reset") {
-        Some(Verb::Reset)
-    } else if is_word(word, b"group-block") {
-        Some(Verb::GroupBlock)
-    } else if is_word(word, b"group-unblock") {
-        Some(Verb::GroupUnblock)
-    } else if is_word(word, b"group-reset") {
-        Some(Verb::GroupReset)
-    } else {
-        None
-    }
-}
-
-fn read_operation(verb: Verb, arguments: &[&[u8]]) -> Option<Operation> {
-    match (verb, arguments) {
-        (Verb::Release, [cic, location, cause]) => Some(Operation::Release(
+// The operations that hold no list.
+fn read_operation(words: &[&[u8]]) -> Option<Operation> {
+    match words {
+        [b"release", cic, location, cause] => Some(Operation::Release(
             decimal_cic(cic)?,
             decimal_octet(location)?,
             decimal_octet(cause)?,
         )),
-        (Verb::Block, [cic]) => Some(Operation::Block(decimal_cic(cic)?)),
-        (Verb::Unblock, [cic]) => Some(Operation::Unblock(decimal_cic(cic)?)),
-        (Verb::Reset, [cic]) => Some(Operation::Reset(decimal_cic(cic)?)),
-        (Verb::GroupBlock, [kind, system, mask]) => {
+        [b"block", cic] => Some(Operation::Block(decimal_cic(cic)?)),
+        [b"unblock", cic] => Some(Operation::Unblock(decimal_cic(cic)?)),
+        [b"reset", cic] => Some(Operation::Reset(decimal_cic(cic)?)),
+        [b"group-block", kind, system, mask] => {
             Some(Operation::GroupBlock(read_slots(kind, system, mask)?))
         }
-        (Verb::GroupUnblock, [kind, system, mask]) => {
+        [b"group-unblock", kind, system, mask] => {
             Some(Operation::GroupUnblock(read_slots(kind, system, mask)?))
         }
-        (Verb::GroupReset, [system]) => Some(Operation::GroupReset(decimal(system)? as usize)),
+        [b"group-reset", system] => Some(Operation::GroupReset(decimal(system)? as usize)),
         _ => None,
     }
 }

@@ -11,7 +11,6 @@ ghost use Rattle.supervision.specs.Trunks.{first_of};
 
 use crate::effects::{send, sweep};
 use crate::judging::{judge, type_of};
-use crate::messages::group_reset_message;
 use crate::trunk::Trunk;
 use circuit::{Circuit, Reset, Rule};
 use message::{BlockType, Grouped, Message};
@@ -118,7 +117,7 @@ impl Trunk {
             status: &every,
         };
         let rule = Rule::Reset(Reset::Group);
-        let message = group_reset_message(Cic(self.config.first.0 + first.0 as u16), RANGE);
+        let message = Message::GroupReset(Cic(self.config.first.0 + first.0 as u16), RANGE);
         Ok(self.perform(first, group, rule, message, table, policy, words, octets))
     }
 

@@ -5,7 +5,6 @@ mod addressing;
 mod effects;
 mod group;
 mod judging;
-mod messages;
 mod opening;
 mod seizing;
 mod single;

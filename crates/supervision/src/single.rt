@@ -8,7 +8,6 @@ ghost use Rattle.supervision.specs.Orders.{singly, blocking, unblocking, resetti
 
 use crate::effects::{send, visit};
 use crate::judging::cause_of;
-use crate::messages::single_message;
 use crate::trunk::Trunk;
 use circuit::{Circuit, Reset, Rule};
 use message::{BlockType, Message, Single};
@@ -92,7 +91,7 @@ impl Trunk {
         match self.admit(P::most(), table.len(), words.len(), octets.len()) {
             Err(refusal) => Err(refusal),
             Ok(()) => {
-                let message = single_message(cic, Single::Blo);
+                let message = Message::Single(cic, Single::Blo);
                 let rule = Rule::Block(BlockType::Maintenance);
                 self.order(cic, rule, message, table, policy, words, octets)
             }
@@ -115,7 +114,7 @@ impl Trunk {
         match self.admit(P::most(), table.len(), words.len(), octets.len()) {
             Err(refusal) => Err(refusal),
             Ok(()) => {
-                let message = single_message(cic, Single::Ubl);
+                let message = Message::Single(cic, Single::Ubl);
                 let rule = Rule::Unblock(BlockType::Maintenance);
                 self.order(cic, rule, message, table, policy, words, octets)
             }
@@ -138,7 +137,7 @@ impl Trunk {
         match self.admit(P::most(), table.len(), words.len(), octets.len()) {
             Err(refusal) => Err(refusal),
             Ok(()) => {
-                let message = single_message(cic, Single::Rsc);
+                let message = Message::Single(cic, Single::Rsc);
                 let rule = Rule::Reset(Reset::Single);
                 self.order(cic, rule, message, table, policy, words, octets)
             }

@@ -1,6 +1,5 @@
 use Rattle.std.proofs.Common.{◌≡◌, ℕ, ◌+◌, ◌*◌, Bool, false, leb, Ok, refl, ap, ◌∙◌, add_assoc, arith}
 use Rattle.std.proofs.lemmas.Bool.{lt-leb}
-use Rattle.message.specs.Meaning.{meaning}
 use Rattle.message.specs.Msg.{Msg, group_reset}
 use Rattle.circuit.proofs.Keeping.{order_keeps}
 use Rattle.circuit.specs.declared.record.Reset.TheVariants as reset
@@ -26,11 +25,10 @@ returns g c =
     let move = ordered (slots system every_slot) rule msg in
     let before = lent T (g.P.Policy.held c.args.policy.now) c.args.words.now c.args.octets.now in
     let far : leb t.systems system ≡ false = lt-leb t.systems system (omega arith) in
-    let sent : meaning c.group_reset_message-message.result ≡ msg =
-    c.group_reset_message-message.ensures ∙ rw (add_assoc t.first.0 (system * 32) 1) refl in
+    let sent : group_reset (t.first.0 + (system * 32 + 1)) 30 ≡ msg = rw (add_assoc t.first.0 (system * 32) 1) in
     let names = named-slots system every_slot refl in
     let covered = covers (system * 32 + 1) 30 (status_of every_slot) in
-    let all : ordered covered rule (meaning c.group_reset_message-message.result) ≡ move =
+    let all : ordered covered rule (group_reset (t.first.0 + (system * 32 + 1)) 30) ≡ move =
     ap (λ (m : Msg). ordered covered rule m) sent ∙ ap (λ (f : ℕ → Bool). ordered f rule msg) names in
     let after = c.perform.ensures.after ∙ ap (λ (m : Move). carried t m before) all in
     rw far
