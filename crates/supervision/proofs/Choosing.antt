@@ -1,5 +1,5 @@
 -- What the policy's choice leads to.
-use Rattle.std.proofs.Common.{◌≡◌, ℕ, ◌+◌, ◌≤◌, Bool, true, eqb, List, length, is_ok, Some, None, Ok, Err, Option, Result, sym, refl, ap, ◌∙◌, subst}
+use Rattle.std.proofs.Common.{◌≡◌, ℕ, ◌+◌, ◌≤◌, Bool, true, eqb, List, length, is_ok, Some, None, Ok, Option, Result, sym, refl, ap, ◌∙◌, subst}
 use Rattle.std.proofs.lemmas.Bool.{false≢true, eqb-true}
 use Rattle.policy.specs.Sets.{Chosen}
 use Rattle.policy.specs.declared.interface.Place.{Place}
@@ -26,22 +26,6 @@ fair_choice T H None chosen set =
 fair_choice T H (Some p) chosen set =
     let open-there : is_open (placed T p.0) ≡ true = sym (set p.0) ∙ chosen in
     ((λ e. (p.0, open-there)), λ x. rw open-there refl)
-
--- refused: the set is as it was
-pub seizure_refused : (t : Config) (body : List ℕ) (choice : Option Place) (e : Refusal) (before after : Lent)
-    → Chosen before.held choice
-    → Err e ≡ seizable choice before.table
-    → after ≡ before
-    → Seizure t body (Err e) before after
-seizure_refused t body choice e before after chosen v same =
-    let a : seizing t body choice before.table ≡ Err e = rw (← v) refl in
-    record {
-      choice = choice;
-      chosen = chosen;
-      done = rw a (refl, same);
-      laws = rw a same;
-      fair = λ set. subst (λ (s : Result Place Refusal). Exactly (is_ok s ≡ true) ((k : ℕ) × (is_open (placed before.table k) ≡ true))) (sym v) (fair_choice before.table before.held choice chosen set);
-    }
 
 -- accepted: the call begins at the chosen place
 pub seizure_accepted : (t : Config) (body : List ℕ) (choice : Option Place) (place : Place) (n : ℕ × ℕ) (before after : Lent)

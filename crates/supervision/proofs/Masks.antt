@@ -1,9 +1,9 @@
 -- The bits of a mask, and of the status that a group message has of it.
-use Rattle.std.proofs.Common.{◌≡◌, ℕ, zero, suc, ◌+◌, ◌-◌, ◌*◌, ◌/◌, ◌%◌, ◌^◌, ◌<◌, ◌≤◌, eqb, List, get_or, sym, refl, ap, ◌∙◌, ⊎_elim, arith}
+use Rattle.std.proofs.Common.{◌≡◌, ℕ, zero, suc, ◌+◌, ◌-◌, ◌*◌, ◌/◌, ◌%◌, ◌^◌, ◌<◌, ◌≤◌, eqb, get_or, sym, refl, ap, ◌∙◌, ⊎_elim, arith}
 use mathlib.Core.Path.{fun_ext}
 use Rattle.std.proofs.lemmas.Nat.{shr-shr}
 use Rattle.std.proofs.lemmas.Bool.{and_left, and_right, cases_eq, cases_lt, eq-eqb, ne_eqb, le-leb}
-use Rattle.status.specs.Bits.{bit_at, set_bits}
+use Rattle.status.specs.Bits.{bit_at}
 use Rattle.supervision.specs.Orders.{slots, status_of}
 use Rattle.supervision.specs.Steps.{covers}
 use Rattle.supervision.proofs.Naming.{covers_below, covers_past, covers_in}
@@ -60,8 +60,3 @@ covers-slots system mask k even = ⊎_elim
 
 pub named-slots : (system mask : ℕ) → mask % 2 ≡ 0 → covers (system * 32 + 1) 30 (status_of mask) ≡ slots system mask
 named-slots system mask even = fun_ext (λ k. covers-slots system mask k even)
-
--- at most as many bits are set as there are
-pub set_few : (xs : List ℕ) (n : ℕ) → set_bits xs n ≤ n
-set_few xs zero = omega arith
-set_few xs (suc n) = let h = set_few xs n in let b : bit_at xs n < 2 = omega arith in omega arith
