@@ -80,7 +80,7 @@ fn sizes_hold(message: Message<'_>) -> bool
 fn is_within(most: u8, group: Group<'_>) -> bool
     ensures { result ≡ is_group_within most group.entry.range.0 group.entry.status.now }
 {
-    group.range.0 >= 1 && group.range.0 <= most && group.range.count_set(group.status) <= 32
+    group.range.0 >= 1 && group.range.0 <= most && group.count_set() <= 32
 }
 
 // Whether range and number of set bits keep the limits.

@@ -1,10 +1,11 @@
 -- Bits of octets, one by one and counted.
-use Rattle.std.proofs.Common.{◌≡◌, ℕ, zero, suc, ◌+◌, ◌-◌, ◌*◌, ◌/◌, ◌%◌, ◌^◌, ◌<◌, ◌≤◌, List, length, get_or, sym, refl, ap, ◌∙◌, add-zero, add-suc, arith}
+use Rattle.std.proofs.Common.{◌≡◌, ℕ, zero, suc, ◌+◌, ◌-◌, ◌*◌, ◌/◌, ◌%◌, ◌^◌, ◌<◌, ◌≤◌, List, length, get_or, take, min, sum_by, sym, refl, ap, ◌∙◌, add-zero, add-suc, add-one, arith, length-take}
 use native.Mathlib.Nat.{mod-one, zero-div}
 use lib.Bits.{bit_and}
 use lib.Count.{ones, ones_cat}
 use Rattle.std.proofs.lemmas.Nat.{mod-pow-add, and_mask, pow_pos, mod_below}
-use Rattle.std.proofs.lemmas.List.{get_or_past}
+use Rattle.std.proofs.lemmas.List.{get_or_past, get_or-take, take_all}
+use Rattle.std.proofs.lemmas.List.Sums.{fold_more}
 use Rattle.status.specs.Bits.{bit_at, set_bits}
 
 -- the number of a bit that is 0 or 1
@@ -72,6 +73,29 @@ octet_last xs r =
     ap (λ (n : ℕ). set_bits xs n) e ∙ octet_bits xs (r / 8) (r % 8 + 1) (omega arith)
     ∙ ap (λ (x : ℕ). set_bits xs (8 * (r / 8)) + ones x) (sym (masked (get_or xs (r / 8) 0) (r % 8) h))
 
+-- the bits of the first n octets
+ones_front : (xs : List ℕ) (n : ℕ) → n ≤ length xs → ((i : ℕ) → get_or xs i 0 < 256) → sum_by ones (take n xs) ≡ set_bits xs (8 * n)
+ones_front xs zero h b = refl
+ones_front xs (suc n) h b =
+    let e = ones_front xs n (omega arith) b in
+    let f = fold_more (λ a x. a + ones x) 0 xs n 0 (omega arith) in
+    let a : suc n ≡ n + 1 = omega arith in
+    rw a (omega (arith, f, e, octet_whole xs n (b n)))
+
+pub ones_all : (xs : List ℕ) → ((i : ℕ) → get_or xs i 0 < 256) → sum_by ones xs ≡ set_bits xs (8 * length xs)
+ones_all xs b =
+    let t : take (length xs) xs ≡ xs = take_all (length xs) xs (omega arith) in
+    let e = ones_front xs (length xs) (omega arith) b in
+    rw t at e
+
+-- octets that are not looked at do not count
+front_same : (xs : List ℕ) (i n : ℕ) → n ≤ 8 * i → set_bits (take i xs) n ≡ set_bits xs n
+front_same xs i zero h = refl
+front_same xs i (suc n) h =
+    let e = front_same xs i n (omega arith) in
+    let g : get_or (take i xs) (n / 8) 0 ≡ get_or xs (n / 8) 0 = get_or-take i xs (n / 8) 0 (omega arith) in
+    rw (e, g)
+
 -- no bit is set past the octets
 pub set_past : (xs : List ℕ) (k : ℕ) → set_bits xs (8 * length xs + k) ≡ set_bits xs (8 * length xs)
 set_past xs zero = rw add-zero
@@ -84,3 +108,24 @@ set_past xs (suc k) =
 pub set_few : (xs : List ℕ) (n : ℕ) → set_bits xs n ≤ n
 set_few xs zero = omega arith
 set_few xs (suc n) = let e = set_few xs n in omega arith
+
+-- the bits of the first octets, as many as there are
+front_all : (xs : List ℕ) (n : ℕ) → n ≤ length xs → set_bits (take n xs) (8 * length (take n xs)) ≡ set_bits xs (8 * n)
+front_all xs n h =
+    let l : length (take n xs) ≡ n = simp length-take (omega arith) in
+    rw (l, front_same xs n (8 * n) (omega arith))
+
+-- the bits of a range, from its whole octets and its last one
+pub count_some : (xs : List ℕ) (r n : ℕ) → n ≡ min (r / 8) (length xs) → r / 8 < length xs →
+    set_bits (take n xs) (8 * length (take n xs)) + ones (bit_and (get_or xs (r / 8) 0) (255 / 2 ^ (7 - r % 8))) ≡ set_bits xs (r + 1)
+count_some xs r n e h =
+    let d : n ≡ r / 8 = omega arith in
+    rw (front_all xs n (omega arith), d, octet_last xs r)
+
+-- and where the last one is not there
+pub count_none : (xs : List ℕ) (r n : ℕ) → n ≡ min (r / 8) (length xs) → length xs ≤ r / 8 →
+    set_bits (take n xs) (8 * length (take n xs)) ≡ set_bits xs (r + 1)
+count_none xs r n e h =
+    let d : n ≡ length xs = omega arith in
+    let k : 8 * length xs + (r + 1 - 8 * length xs) ≡ r + 1 = omega arith in
+    rw (front_all xs n (omega arith), d, ← set_past xs (r + 1 - 8 * length xs), k)

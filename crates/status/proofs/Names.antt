@@ -1,10 +1,11 @@
 -- The circuits that a status names, one after another.
-use Rattle.std.proofs.Common.{◌≡◌, ℕ, zero, suc, ◌+◌, ◌-◌, ◌<◌, ◌≤◌, true, false, cond, eqb, List, [], ◌∷◌, length, refl, ◌∙◌, inl, inr, add-zero, zero-add, add-one, arith}
+use Rattle.std.proofs.Common.{◌≡◌, ℕ, zero, suc, ◌+◌, ◌-◌, ◌<◌, ◌≤◌, true, false, cond, eqb, List, [], ◌∷◌, length, refl, ◌∙◌, inl, inr, MatchOption, Some, None, Option, add-zero, zero-add, add-one, arith}
 use native.Mathlib.Nat.{sub-zero}
+use Rattle.std.proofs.lemmas.Bool.{cases_lt}
 use Rattle.std.proofs.lemmas.Bool.Decides.{nat_tests, eqb_tells}
 use Rattle.status.specs.Bits.{bit_at, set_bits, is_named, SameBits}
 use Rattle.status.specs.Circuits.{circuit_at}
-use Rattle.status.specs.Naming.{named, named_from, circuits_of}
+use Rattle.status.specs.Naming.{named, named_from, circuits_of, NextSet}
 
 -- the k-th circuit, and those after it
 from_step : (m r : ℕ) (xs : List ℕ) (k : ℕ) → k < r + 1 →
@@ -28,6 +29,27 @@ from_clear m r xs k h e = from_step m r xs k h ∙ rw (bit_of r xs k h ∙ e)
 
 pub from_end : (m r : ℕ) (xs : List ℕ) (k : ℕ) → r + 1 ≤ k → named_from m r xs k ≡ []
 from_end m r xs k h = let z : r + 1 - k ≡ 0 = omega arith in rw z
+
+-- those between that are not set are skipped
+skipped : (m r : ℕ) (xs : List ℕ) (k n : ℕ) → k + n ≤ r + 1 → ((j : ℕ) → k ≤ j → j < k + n → is_named r xs j ≡ false) →
+    named_from m r xs k ≡ named_from m r xs (k + n)
+skipped m r xs k zero h c = rw add-zero
+skipped m r xs k (suc n) h c =
+    let e : k + suc n ≡ k + n + 1 = omega arith in
+    skipped m r xs k n (omega arith) (λ j a b. c j a (omega arith)) ∙ from_clear m r xs (k + n) (omega arith) (c (k + n) (omega arith) (omega arith)) ∙ rw e
+
+-- the first that is set, or none
+pub first_set : (r : ℕ) (xs : List ℕ) (k : ℕ) (o : Option ℕ) →
+    MatchOption o ((j : ℕ) → k ≤ j → j < r + 1 → is_named r xs j ≡ false)
+    (λ i. (k ≤ i) × (i < r + 1) × (is_named r xs i ≡ true) × ((j : ℕ) → k ≤ j → j < i → is_named r xs j ≡ false)) → NextSet r xs k o
+first_set r xs k None h = λ m. elim (cases_lt k (r + 1)) [
+  | inl l ↦ let e : k + (r + 1 - k) ≡ r + 1 = omega arith in
+      skipped m r xs k (r + 1 - k) (omega arith) (λ j a b. h j a (omega arith)) ∙ rw e (from_end m r xs (r + 1) (omega arith))
+  | inr g ↦ from_end m r xs k g
+]
+first_set r xs k (Some i) (a, b, t, h) = λ m.
+    let e : k + (i - k) ≡ i = omega arith in
+    skipped m r xs k (i - k) (omega arith) (λ j c d. h j c (omega arith)) ∙ rw e (from_set m r xs i b t)
 
 -- from its first circuit on, a range is whole
 pub whole_range : (m r : ℕ) (xs : List ℕ) → named_from m r xs 0 ≡ circuits_of m r xs

@@ -20,7 +20,7 @@ named_from m r xs k = named m xs k (r + 1 - k)
 
 -- what an iterator has yet to name
 abbrev pub left_named : Named → List Cic
-left_named s = named_from s.first.0 s.range.0 s.status.now s.next
+left_named s = named_from s.first.0 s.group.range.0 s.group.status.now s.next
 
 -- n is the first bit from k on that names a circuit
 abbrev pub NextSet : ℕ → List ℕ → ℕ → Option ℕ → Type 0

@@ -3,7 +3,7 @@ use Rattle.std.specs.Prelude.{ℕ, ◌+◌, Bool, cond, ◌&&◌, List, length, 
 use Rattle.status.specs.Bits.{octets_for, set_bits}
 use Rattle.status.specs.declared.fault.ParamFault.{ParamFault}
 use Rattle.status.specs.declared.fault.ParamFault.TheVariants.{Layout, Limit}
-use Rattle.status.specs.declared.parameter.Group.{Group}
+use Rattle.status.specs.declared.group.Group.{Group}
 
 -- the length octet counts the range and its status, and nothing follows them
 abbrev pub laid_out : List ℕ → Bool

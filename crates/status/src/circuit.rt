@@ -2,8 +2,10 @@
 ghost use Rattle.std.specs.Prelude.{◌≡◌, ◌/◌, ◌%◌, ◌<◌, [], ◌∷◌};
 ghost use Rattle.status.specs.Circuits.{cic_of, circuit_at};
 
+use std::fmt;
+
 // A circuit identification code (CIC). On the line it has 12 bits; a number past 4,095 is none.
-#[derive(Clone, Copy, PartialEq, Eq, Debug)]
+#[derive(Clone, Copy, PartialEq, Eq, PartialOrd, Ord, Debug)]
 pub struct Cic(pub u16);
 
 impl Cic {
@@ -15,20 +17,26 @@ impl Cic {
         ensures value { result.0 ≡ cic_of low high }
         ensures bound { result.0 < 4096 }
     {
-        Cic(low as u16 + (high % 16) as u16 * 256)
+        Cic(u16::from_le_bytes([low, high % 16]))
     }
 
     // The first two octets of a message of this circuit.
     pub fn octets(self) -> [u8; 2]
         ensures { result ≡ (self.0 % 256) ∷ (self.0 / 256) ∷ [] }
     {
-        [(self.0 % 256) as u8, (self.0 / 256) as u8]
+        self.0.to_le_bytes()
     }
 
     // The circuit `n` places after this one.
     pub fn after(self, n: u8) -> Cic
         ensures { result.0 ≡ circuit_at self.0 n }
     {
-        Cic(self.0.saturating_add(n as u16))
+        Cic(self.0.saturating_add(u16::from(n)))
+    }
+}
+
+impl fmt::Display for Cic {
+    fn fmt<W: fmt::Write>(&self, f: &mut fmt::Formatter<W>) -> fmt::Result {
+        write!(f, "{}", self.0)
     }
 }

@@ -1,4 +1,6 @@
 // What can be wrong with a parameter.
+use std::error::Error;
+use std::fmt;
 
 // What is wrong with a parameter of a message; each case carries the message's type octet.
 #[derive(Clone, Copy, PartialEq, Eq, Debug)]
@@ -8,3 +10,14 @@ pub enum ParamFault {
     // The range or the number of set bits is outside its limits.
     Limit(u8),
 }
+
+impl fmt::Display for ParamFault {
+    fn fmt<W: fmt::Write>(&self, f: &mut fmt::Formatter<W>) -> fmt::Result {
+        match self {
+            ParamFault::Layout(kind) => write!(f, "layout type={kind:02X}"),
+            ParamFault::Limit(kind) => write!(f, "limit type={kind:02X}"),
+        }
+    }
+}
+
+impl Error for ParamFault {}

@@ -3,12 +3,14 @@
 
 mod circuit;
 mod fault;
+mod group;
 mod naming;
 mod parameter;
 mod span;
 
 pub use circuit::Cic;
 pub use fault::ParamFault;
+pub use group::Group;
 pub use naming::Named;
-pub use parameter::{Group, read_group};
+pub use parameter::read_group;
 pub use span::Range;

@@ -5,42 +5,36 @@ ghost use Rattle.status.specs.Naming.{circuits_of, left_named, NextSet};
 ghost use Rattle.std.specs.Iterator.{at_most};
 
 use crate::circuit::Cic;
-use crate::span::Range;
+use crate::group::Group;
 
 // The circuits that are still to be named, rising.
 #[derive(Clone, Copy)]
 pub struct Named<'a> {
     first: Cic,
-    range: Range,
-    status: &'a [u8],
+    group: Group<'a>,
     // the next bit to look at
     next: u16,
 }
 
-impl Range {
+impl<'a> Group<'a> {
     // The circuits of the range from `first` on whose bits are set, rising.
-    pub fn named(self, first: Cic, status: &[u8]) -> Named<'_>
-        ensures value { left_named result ≡ circuits_of first.0 self.0 status.now }
-        ensures spare { (xs : List ℕ) → SameBits self.0 status.now xs → left_named result ≡ circuits_of first.0 self.0 xs }
+    pub fn named(self, first: Cic) -> Named<'a>
+        ensures value { left_named result ≡ circuits_of first.0 self.entry.range.0 self.entry.status.now }
+        ensures spare { (xs : List ℕ) → SameBits self.entry.range.0 self.entry.status.now xs → left_named result ≡ circuits_of first.0 self.entry.range.0 xs }
     {
         Named {
             first,
-            range: self,
-            status,
+            group: self,
             next: 0,
         }
     }
 
     // The first bit from `from` on that is set.
-    fn next_set(self, status: &[u8], from: u16) -> Option<u8>
-        ensures { NextSet self.0 status.now from result }
+    fn next_set(self, from: u16) -> Option<u8>
+        ensures { NextSet self.entry.range.0 self.entry.status.now from result }
     {
-        for n in from..self.0 as u16 + 1 {
-            if self.is_set(status, n as u8) {
-                return Some(n as u8);
-            }
-        }
-        None
+        let n = (from..self.range.0 as u16 + 1).find(|n| self.is_set(*n as u8))?;
+        Some(n as u8)
     }
 }
 
@@ -52,12 +46,8 @@ impl Iterator for Named<'_> {
     ghost remaining = { λ s. at_most (length (left_named s)) };
 
     fn next(&mut self) -> Option<Cic> {
-        match self.range.next_set(self.status, self.next) {
-            Some(n) => {
-                self.next = n as u16 + 1;
-                Some(self.first.after(n))
-            }
-            None => None,
-        }
+        let n = self.group.next_set(self.next)?;
+        self.next = u16::from(n) + 1;
+        Some(self.first.after(n))
     }
 }

@@ -10,7 +10,7 @@ clauses r xs ys e = (e, (λ k h. rw e (cleared_same r xs k h)), λ l k h. rw e (
 
 pub returns-then-end-status : goal.returns-then-end-status
 returns-then-end-status c =
-    let p = clauses c.args.self.0 c.args.status.now _ (cleared_by_mask c.args.self.0 c.args.status.now) in
+    let p = clauses c.args.self.0 c.args.status.now _ (rw c.last_mask.ensures (cleared_by_mask c.args.self.0 c.args.status.now)) in
     record { after = p.0; same = p.1; spare = p.2 }
 
 pub returns-else-end-status : goal.returns-else-end-status
