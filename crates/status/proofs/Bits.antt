@@ -1,11 +1,10 @@
 -- Bits of octets, one by one and counted.
-use Rattle.std.proofs.Common.{◌≡◌, ℕ, zero, suc, ◌+◌, ◌-◌, ◌*◌, ◌/◌, ◌%◌, ◌^◌, ◌<◌, ◌≤◌, List, length, get_or, take, min, sum_by, sym, refl, ap, ◌∙◌, add-zero, add-suc, add-one, arith, length-take}
+use Rattle.std.proofs.Common.{◌≡◌, ℕ, zero, suc, ◌+◌, ◌-◌, ◌*◌, ◌/◌, ◌%◌, ◌^◌, ◌<◌, ◌≤◌, List, length, get_or, take, min, sym, refl, ap, ◌∙◌, add-zero, add-suc, arith, length-take}
 use native.Mathlib.Nat.{mod-one, zero-div}
 use lib.Bits.{bit_and}
 use lib.Count.{ones, ones_cat}
 use Rattle.std.proofs.lemmas.Nat.{mod-pow-add, and_mask, pow_pos, mod_below}
-use Rattle.std.proofs.lemmas.List.{get_or_past, get_or-take, take_all}
-use Rattle.std.proofs.lemmas.List.Sums.{fold_more}
+use Rattle.std.proofs.lemmas.List.{get_or_past, get_or-take}
 use Rattle.status.specs.Bits.{bit_at, set_bits}
 
 -- the number of a bit that is 0 or 1
@@ -72,21 +71,6 @@ octet_last xs r =
     let h : r % 8 < 8 = omega arith in
     ap (λ (n : ℕ). set_bits xs n) e ∙ octet_bits xs (r / 8) (r % 8 + 1) (omega arith)
     ∙ ap (λ (x : ℕ). set_bits xs (8 * (r / 8)) + ones x) (sym (masked (get_or xs (r / 8) 0) (r % 8) h))
-
--- the bits of the first n octets
-ones_front : (xs : List ℕ) (n : ℕ) → n ≤ length xs → ((i : ℕ) → get_or xs i 0 < 256) → sum_by ones (take n xs) ≡ set_bits xs (8 * n)
-ones_front xs zero h b = refl
-ones_front xs (suc n) h b =
-    let e = ones_front xs n (omega arith) b in
-    let f = fold_more (λ a x. a + ones x) 0 xs n 0 (omega arith) in
-    let a : suc n ≡ n + 1 = omega arith in
-    rw a (omega (arith, f, e, octet_whole xs n (b n)))
-
-pub ones_all : (xs : List ℕ) → ((i : ℕ) → get_or xs i 0 < 256) → sum_by ones xs ≡ set_bits xs (8 * length xs)
-ones_all xs b =
-    let t : take (length xs) xs ≡ xs = take_all (length xs) xs (omega arith) in
-    let e = ones_front xs (length xs) (omega arith) b in
-    rw t at e
 
 -- octets that are not looked at do not count
 front_same : (xs : List ℕ) (i n : ℕ) → n ≤ 8 * i → set_bits (take i xs) n ≡ set_bits xs n

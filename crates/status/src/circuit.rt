@@ -31,7 +31,7 @@ impl Cic {
     pub fn after(self, n: u8) -> Cic
         ensures { result.0 ≡ circuit_at self.0 n }
     {
-        Cic(self.0.saturating_add(u16::from(n)))
+        Cic(self.0.saturating_add(n as u16))
     }
 }
 

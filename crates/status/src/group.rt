@@ -17,6 +17,7 @@ fn ones_in(octets: &[u8]) -> u8
     requires { length octets.now < 32 }
     ensures { result ≡ set_bits octets.now (8 * length octets.now) }
 {
+    // a loop, since a read of range 255 takes 231 instructions with it, and with a chain 237
     let mut count = 0;
     for octet in octets {
         count += octet.count_ones() as u8;
@@ -29,11 +30,8 @@ impl Group<'_> {
     pub fn is_set(self, n: u8) -> bool
         ensures { result ≡ is_named self.entry.range.0 self.entry.status.now n }
     {
-        let at = n as usize / 8;
-        if n > self.range.0 || at >= self.status.len() {
-            return false;
-        }
-        (self.status[at] >> (n % 8)) % 2 == 1
+        let octet = self.status.get(n as usize / 8);
+        n <= self.range.0 && octet.is_some_and(|octet| (octet >> (n % 8)) % 2 == 1)
     }
 
     // How many circuits have their bit set.

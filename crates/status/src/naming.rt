@@ -47,7 +47,7 @@ impl Iterator for Named<'_> {
 
     fn next(&mut self) -> Option<Cic> {
         let n = self.group.next_set(self.next)?;
-        self.next = u16::from(n) + 1;
+        self.next = n as u16 + 1;
         Some(self.first.after(n))
     }
 }

@@ -22,7 +22,7 @@ pub fn read_group(kind: u8, most: u8, part: &[u8]) -> Result<Group<'_>, ParamFau
         return Err(ParamFault::Layout(kind));
     }
     // a range of at most 31 has no more than 32 bits
-    if *range < 1 || *range > most || most > 31 && *range > 31 && group.count_set() > 32 {
+    if !(1..=most).contains(range) || *range > 31 && group.count_set() > 32 {
         return Err(ParamFault::Limit(kind));
     }
     Ok(group)

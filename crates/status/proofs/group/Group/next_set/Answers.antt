@@ -9,7 +9,7 @@ returns-in_err-n c =
     let r = c.args.self.range.0 in
     let xs = c.args.self.status.now in
     let f = first_from_Range _ _ _ _ (λ k. is_named r xs k ≡ true) (λ k. is_named r xs k ≡ false) c.find.ensures.ran
-        (λ x q k. search (rules, tests)) (λ x q k. search (rules, tests)) in
+    (λ x q k. search (rules, tests)) (λ x q k. search (rules, tests)) in
     rw c.from_residual.ensures (first_set r xs c.args.from None (rw c.in_err-n.was at f))
 
 pub returns : goal.returns
@@ -17,5 +17,5 @@ returns c =
     let r = c.args.self.range.0 in
     let xs = c.args.self.status.now in
     let f = first_from_Range _ _ _ _ (λ k. is_named r xs k ≡ true) (λ k. is_named r xs k ≡ false) c.find.ensures.ran
-        (λ x q k. search (rules, tests)) (λ x q k. search (rules, tests)) in
+    (λ x q k. search (rules, tests)) (λ x q k. search (rules, tests)) in
     first_set r xs c.args.from (Some c.in_ok-n.n) (rw c.in_ok-n.was at f)
