@@ -12,7 +12,8 @@ use Rattle.message.specs.Encode.{type_in}
 use Rattle.message.specs.Format.{LaidOut, Limits, Represents}
 use Rattle.message.specs.Laws.{Typed, Listed, Because}
 use Rattle.message.specs.Msg.{Msg, single, release_complete, group_reset, group_reset_ack, grouped, release, call, cic_in, kind_in}
-use Rattle.message.specs.Types.{Kind, kind_of, type_of}
+use Rattle.message.specs.declared.kinds.Kind.{Kind}
+use Rattle.message.specs.Types.{kind_of, type_of}
 use Rattle.message.specs.declared.fault.MessageFault.{MessageFault}
 use Rattle.message.specs.declared.fault.MessageFault.TheVariants.{NoRoom, Short, Unknown, Layout, Limit}
 

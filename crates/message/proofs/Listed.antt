@@ -2,30 +2,32 @@
 use Rattle.std.proofs.Common.{◌≡◌, ℕ, Bool, true, false, cond, eqb, ◌⊎◌, Some, None, Option, sym, refl, ap, ◌∙◌, inl, inr}
 use Rattle.std.proofs.lemmas.Bool.{eqb-true}
 use Rattle.message.proofs.Lists.{none_some}
-use Rattle.message.specs.Types.{Kind, type_of, kind_of, single, release_complete, group_reset, group_reset_ack, grouped, release, call}
+use Rattle.message.specs.declared.kinds.Kind.{Kind}
+use Rattle.message.specs.declared.kinds.Kind.TheVariants.{Single, ReleaseComplete, GroupReset, GroupResetAck, Grouped, Release, Call}
+use Rattle.message.specs.Types.{type_of, kind_of}
 use Rattle.message.specs.declared.kinds.Single.TheVariants.{Rsc, Blo, Ubl, Bla, Uba}
 use Rattle.message.specs.declared.kinds.Grouped.TheVariants.{Cgb, Cgu, Cgba, Cgua}
 use Rattle.message.specs.declared.kinds.CallKind.TheVariants.{Iam, Acm, Con, Anm, Cpg}
 
 pub kind_of_type : (k : Kind) → kind_of (type_of k) ≡ Some k
-kind_of_type (single Rsc) = refl
-kind_of_type (single Blo) = refl
-kind_of_type (single Ubl) = refl
-kind_of_type (single Bla) = refl
-kind_of_type (single Uba) = refl
-kind_of_type release_complete = refl
-kind_of_type group_reset = refl
-kind_of_type group_reset_ack = refl
-kind_of_type (grouped Cgb) = refl
-kind_of_type (grouped Cgu) = refl
-kind_of_type (grouped Cgba) = refl
-kind_of_type (grouped Cgua) = refl
-kind_of_type release = refl
-kind_of_type (call Iam) = refl
-kind_of_type (call Acm) = refl
-kind_of_type (call Con) = refl
-kind_of_type (call Anm) = refl
-kind_of_type (call Cpg) = refl
+kind_of_type (Single Rsc) = refl
+kind_of_type (Single Blo) = refl
+kind_of_type (Single Ubl) = refl
+kind_of_type (Single Bla) = refl
+kind_of_type (Single Uba) = refl
+kind_of_type ReleaseComplete = refl
+kind_of_type GroupReset = refl
+kind_of_type GroupResetAck = refl
+kind_of_type (Grouped Cgb) = refl
+kind_of_type (Grouped Cgu) = refl
+kind_of_type (Grouped Cgba) = refl
+kind_of_type (Grouped Cgua) = refl
+kind_of_type Release = refl
+kind_of_type (Call Iam) = refl
+kind_of_type (Call Acm) = refl
+kind_of_type (Call Con) = refl
+kind_of_type (Call Anm) = refl
+kind_of_type (Call Cpg) = refl
 
 -- one row of the table, and the rows after it
 row : {t : ℕ} (j : Kind) {rest : Option Kind} {k : Kind} → (rest ≡ Some k → type_of k ≡ t) →
@@ -38,10 +40,10 @@ row {t} j {rest} {k} after e = at (eqb t (type_of j)) refl e
 
 pub type_of_kind : (t : ℕ) (k : Kind) → kind_of t ≡ Some k → type_of k ≡ t
 type_of_kind t k =
-    row (single Rsc) (row (single Blo) (row (single Ubl) (row (single Bla) (row (single Uba)
-    (row (call Iam) (row (call Acm) (row (call Con) (row (call Anm) (row (call Cpg)
-    (row release_complete (row release (row group_reset (row group_reset_ack
-    (row (grouped Cgb) (row (grouped Cgu) (row (grouped Cgba) (row (grouped Cgua)
+    row (Single Rsc) (row (Single Blo) (row (Single Ubl) (row (Single Bla) (row (Single Uba)
+    (row (Call Iam) (row (Call Acm) (row (Call Con) (row (Call Anm) (row (Call Cpg)
+    (row ReleaseComplete (row Release (row GroupReset (row GroupResetAck
+    (row (Grouped Cgb) (row (Grouped Cgu) (row (Grouped Cgba) (row (Grouped Cgua)
     (λ e. absurd (none_some k e)))))))))))))))))))
 
 pub unlisted : (t : ℕ) → kind_of t ≡ None → (k : Kind) → type_of k ≡ t → ⊥

@@ -8,8 +8,8 @@ use Rattle.message.proofs.Lists.{passed, first_two, first_three}
 use Rattle.message.specs.Decode.{laid_out_as, release_laid_out, as_group_reset_ack, as_grouped, as_release}
 use Rattle.message.specs.Format.{Parameter, Follows}
 use Rattle.message.specs.Msg.{Msg, single, release_complete, group_reset, group_reset_ack, grouped, release, call, cic_in, kind_in}
-use Rattle.message.specs.Types.{Kind}
-use Rattle.message.specs.Types as kind
+use Rattle.message.specs.declared.kinds.Kind.{Kind}
+use Rattle.message.specs.declared.kinds.Kind.TheVariants as kind
 
 -- m is a message of the kind k and the circuit c, and xs follows its type
 abbrev pub Row : Kind → ℕ → List ℕ → Msg → Type 0
@@ -76,13 +76,13 @@ release_said c (a ∷ p ∷ b ∷ x ∷ y ∷ z ∷ more) t =
 
 -- what is laid out as a kind is said to follow
 pub laid_said : (k : Kind) (c : ℕ) (xs : List ℕ) (m : Msg) → laid_out_as k c xs ≡ Some m → Row k c xs m
-laid_said (kind.single j) c xs m = row_of _ c xs _ _ m (λ t. (refl, refl, nil_from_length xs (grind (arith, nat_tests))))
-laid_said kind.release_complete c xs m = row_of _ c xs _ _ m (λ t. (refl, refl, complete_said xs t))
-laid_said kind.group_reset c xs m = row_of _ c xs _ _ m (λ t. (refl, refl, reset_said c xs t))
-laid_said kind.group_reset_ack c xs m = row_of _ c xs _ _ m (λ t. (refl, refl, ack_said c xs t))
-laid_said (kind.grouped j) c xs m = row_of _ c xs _ _ m (λ t. (refl, refl, grouped_said c j xs t))
-laid_said kind.release c xs m = row_of _ c xs _ _ m (λ t. (refl, refl, release_said c xs t))
-laid_said (kind.call j) c xs m = row_of _ c xs _ _ m (λ t. (refl, refl, (grind (arith, nat_tests), refl)))
+laid_said (kind.Single j) c xs m = row_of _ c xs _ _ m (λ t. (refl, refl, nil_from_length xs (grind (arith, nat_tests))))
+laid_said kind.ReleaseComplete c xs m = row_of _ c xs _ _ m (λ t. (refl, refl, complete_said xs t))
+laid_said kind.GroupReset c xs m = row_of _ c xs _ _ m (λ t. (refl, refl, reset_said c xs t))
+laid_said kind.GroupResetAck c xs m = row_of _ c xs _ _ m (λ t. (refl, refl, ack_said c xs t))
+laid_said (kind.Grouped j) c xs m = row_of _ c xs _ _ m (λ t. (refl, refl, grouped_said c j xs t))
+laid_said kind.Release c xs m = row_of _ c xs _ _ m (λ t. (refl, refl, release_said c xs t))
+laid_said (kind.Call j) c xs m = row_of _ c xs _ _ m (λ t. (refl, refl, (grind (arith, nat_tests), refl)))
 
 parameter_laid : (r : ℕ) (s xs : List ℕ) → Parameter r s xs → (group.laid_out xs ≡ true) × (get_or xs 1 0 ≡ r) × (drop 2 xs ≡ s)
 parameter_laid r s xs p = rw p.1 (grind (arith, nat_tests), refl, refl)

@@ -3,8 +3,9 @@ use Rattle.std.specs.Prelude.{ℕ, ◌%◌, Bool, true, cond, ◌&&◌, ◌||◌
 use Rattle.status.specs.Circuits.{cic_of}
 use Rattle.status.specs.Parameter as group
 use Rattle.message.specs.Msg.{Msg, single, release_complete, group_reset, group_reset_ack, grouped, release, call}
-use Rattle.message.specs.Types.{Kind, kind_of}
-use Rattle.message.specs.Types as kind
+use Rattle.message.specs.declared.kinds.Kind.{Kind}
+use Rattle.message.specs.Types.{kind_of}
+use Rattle.message.specs.declared.kinds.Kind.TheVariants as kind
 use Rattle.message.specs.declared.fault.MessageFault.{MessageFault}
 use Rattle.message.specs.declared.fault.MessageFault.TheVariants.{Short, Unknown, Layout, Limit}
 use Rattle.message.specs.declared.kinds.Single.{Single}
@@ -48,13 +49,13 @@ as_call c k xs = cond (nat_le 1 (length xs)) (Some (call c k xs)) None
 
 -- what follows the type, where it has the layout of its kind
 abbrev pub laid_out_as : Kind → ℕ → List ℕ → Option Msg
-laid_out_as (kind.single k) c xs = as_single c k xs
-laid_out_as kind.release_complete c xs = as_release_complete c xs
-laid_out_as kind.group_reset c xs = as_group_reset c xs
-laid_out_as kind.group_reset_ack c xs = as_group_reset_ack c xs
-laid_out_as (kind.grouped k) c xs = as_grouped c k xs
-laid_out_as kind.release c xs = as_release c xs
-laid_out_as (kind.call k) c xs = as_call c k xs
+laid_out_as (kind.Single k) c xs = as_single c k xs
+laid_out_as kind.ReleaseComplete c xs = as_release_complete c xs
+laid_out_as kind.GroupReset c xs = as_group_reset c xs
+laid_out_as kind.GroupResetAck c xs = as_group_reset_ack c xs
+laid_out_as (kind.Grouped k) c xs = as_grouped c k xs
+laid_out_as kind.Release c xs = as_release c xs
+laid_out_as (kind.Call k) c xs = as_call c k xs
 
 -- indicator, range and number of set bits
 abbrev pub within : Msg → Bool

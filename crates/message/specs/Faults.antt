@@ -1,5 +1,5 @@
 -- Faults and their numbers.
-use Rattle.std.specs.Prelude.{ℕ}
+use Rattle.std.specs.Prelude.{ℕ, Some, None, Option}
 use Rattle.status.specs.declared.fault.ParamFault.{ParamFault}
 use Rattle.status.specs.declared.fault.ParamFault.TheVariants as param
 use Rattle.message.specs.declared.fault.MessageFault.{MessageFault}
@@ -16,3 +16,11 @@ number_of Short = 4
 number_of (Unknown t) = 5
 number_of (Layout t) = 6
 number_of (Limit t) = 7
+
+-- the type octet that a fault carries
+abbrev pub type_of_fault : MessageFault → Option ℕ
+type_of_fault NoRoom = None
+type_of_fault Short = None
+type_of_fault (Unknown t) = Some t
+type_of_fault (Layout t) = Some t
+type_of_fault (Limit t) = Some t

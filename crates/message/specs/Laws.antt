@@ -5,7 +5,8 @@ use Rattle.message.specs.Decode.{decode}
 use Rattle.message.specs.Encode.{encode, plain, refusal_of, type_in}
 use Rattle.message.specs.Format.{LaidOut, Limits, Represents}
 use Rattle.message.specs.Msg.{Msg, single, release_complete, group_reset, group_reset_ack, grouped, release, call, cic_in}
-use Rattle.message.specs.Types.{Kind, type_of}
+use Rattle.message.specs.declared.kinds.Kind.{Kind}
+use Rattle.message.specs.Types.{type_of}
 use Rattle.message.specs.declared.fault.MessageFault.{MessageFault}
 use Rattle.message.specs.declared.fault.MessageFault.TheVariants.{NoRoom, Short, Unknown, Layout, Limit}
 

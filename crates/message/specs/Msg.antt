@@ -3,8 +3,8 @@ use Rattle.std.specs.Prelude.{ℕ, List}
 use Rattle.message.specs.declared.kinds.Single.{Single}
 use Rattle.message.specs.declared.kinds.Grouped.{Grouped}
 use Rattle.message.specs.declared.kinds.CallKind.{CallKind}
-use Rattle.message.specs.Types.{Kind}
-use Rattle.message.specs.Types as kind
+use Rattle.message.specs.declared.kinds.Kind.{Kind}
+use Rattle.message.specs.declared.kinds.Kind.TheVariants as kind
 
 -- the first number is the CIC
 pub data Msg : Type 0 where
@@ -31,10 +31,10 @@ cic_in (release c x) = c
 cic_in (call c k x) = c
 
 abbrev pub kind_in : Msg → Kind
-kind_in (single c k) = kind.single k
-kind_in (release_complete c) = kind.release_complete
-kind_in (group_reset c r) = kind.group_reset
-kind_in (group_reset_ack c r s) = kind.group_reset_ack
-kind_in (grouped c k i r s) = kind.grouped k
-kind_in (release c x) = kind.release
-kind_in (call c k x) = kind.call k
+kind_in (single c k) = kind.Single k
+kind_in (release_complete c) = kind.ReleaseComplete
+kind_in (group_reset c r) = kind.GroupReset
+kind_in (group_reset_ack c r s) = kind.GroupResetAck
+kind_in (grouped c k i r s) = kind.Grouped k
+kind_in (release c x) = kind.Release
+kind_in (call c k x) = kind.Call k

@@ -2,10 +2,9 @@
 ghost use Rattle.std.specs.Prelude.{◌≡◌};
 ghost use Rattle.message.specs.Encode.{type_in};
 ghost use Rattle.message.specs.Meaning.{meaning};
-ghost use Rattle.message.specs.Msg.{cic_in};
+ghost use Rattle.message.specs.Msg.{cic_in, kind_in};
 
-use crate::kinds::{BlockType, CallKind, Grouped, Single};
-use crate::types::*;
+use crate::kinds::{BlockType, CallKind, Grouped, Kind, Single};
 use status::{Cic, Group, Range};
 
 #[derive(Clone, Copy)]
@@ -42,17 +41,23 @@ impl Message<'_> {
         }
     }
 
+    pub fn kind(self) -> Kind
+        ensures { result ≡ kind_in (meaning self.entry) }
+    {
+        match self {
+            Message::Single(_, what) => Kind::Single(what),
+            Message::ReleaseComplete(_) => Kind::ReleaseComplete,
+            Message::GroupReset(_, _) => Kind::GroupReset,
+            Message::GroupResetAck(_, _) => Kind::GroupResetAck,
+            Message::Grouped(_, what, _, _) => Kind::Grouped(what),
+            Message::Release(_, _) => Kind::Release,
+            Message::Call(_, what, _) => Kind::Call(what),
+        }
+    }
+
     pub fn type_octet(self) -> u8
         ensures { result ≡ type_in (meaning self.entry) }
     {
-        match self {
-            Message::Single(_, what) => what.type_octet(),
-            Message::ReleaseComplete(_) => RLC,
-            Message::GroupReset(_, _) => GRS,
-            Message::GroupResetAck(_, _) => GRA,
-            Message::Grouped(_, what, _, _) => what.type_octet(),
-            Message::Release(_, _) => REL,
-            Message::Call(_, what, _) => what.type_octet(),
-        }
+        u8::from(self.kind())
     }
 }

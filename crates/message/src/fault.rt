@@ -1,8 +1,10 @@
 // Why octets are no message, or a message has no octets.
 ghost use Rattle.std.specs.Prelude.{◌≡◌};
-ghost use Rattle.message.specs.Faults.{raised, number_of};
+ghost use Rattle.message.specs.Faults.{raised, number_of, type_of_fault};
 
 use status::ParamFault;
+use std::error::Error;
+use std::fmt;
 
 // Layout, limit and unknown type carry the type octet.
 #[derive(Clone, Copy, PartialEq, Eq, Debug)]
@@ -32,7 +34,31 @@ impl MessageFault {
             MessageFault::Limit(_) => 7,
         }
     }
+
+    // The type octet of the message, where there is one.
+    pub fn type_octet(self) -> Option<u8>
+        ensures { result ≡ type_of_fault self }
+    {
+        match self {
+            MessageFault::NoRoom | MessageFault::Short => None,
+            MessageFault::Unknown(octet) => Some(octet),
+            MessageFault::Layout(octet) => Some(octet),
+            MessageFault::Limit(octet) => Some(octet),
+        }
+    }
 }
+
+impl fmt::Display for MessageFault {
+    fn fmt<W: fmt::Write>(&self, f: &mut fmt::Formatter<W>) -> fmt::Result {
+        let number = self.number();
+        match self.type_octet() {
+            Some(octet) => write!(f, "refused {number} type={octet:02X}"),
+            None => write!(f, "refused {number}"),
+        }
+    }
+}
+
+impl Error for MessageFault {}
 
 impl From<ParamFault> for MessageFault {
     ghost from_gives = { λ p m. m ≡ raised p };

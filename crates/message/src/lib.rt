@@ -5,11 +5,10 @@ mod content;
 mod fault;
 mod kinds;
 mod reader;
-mod types;
 mod writer;
 
 pub use content::Message;
 pub use fault::MessageFault;
-pub use kinds::{BlockType, CallKind, Grouped, Single};
+pub use kinds::{BlockType, CallKind, Grouped, Kind, Single, UnknownIndicator};
 pub use reader::read;
 pub use writer::write;

@@ -1,83 +1,74 @@
 // What the octets of a message say.
 ghost use Rattle.std.specs.Prelude.{◌≡◌};
-ghost use Rattle.message.specs.Decode.{decode, decode_rest, limited, as_grouped, release_laid_out};
+ghost use Rattle.message.specs.Decode.{decode, limited, laid_out_as, as_group_reset, as_group_reset_ack, as_grouped, release_laid_out};
 ghost use Rattle.message.specs.Laws.{Reads};
 ghost use Rattle.message.specs.Meaning.{seen};
 
 use crate::content::Message;
 use crate::fault::MessageFault;
-use crate::kinds::{BlockType, CallKind, Grouped, Single};
-use crate::types::*;
+use crate::kinds::{BlockType, Grouped, Kind};
 use status::{Cic, Range, read_group};
 
 // A release: 02, a pointer, 02 and two cause octets.
 fn is_release(rest: &[u8]) -> bool
     ensures { result ≡ release_laid_out rest.now }
 {
-    rest.len() >= 5
-        && rest[0] == 2
-        && rest[2] == 2
-        && (rest[1] == 0 && rest.len() == 5 || rest[1] == 4 && rest.len() >= 6)
+    matches!(rest, [2, 0, 2, _, _] | [2, 4, 2, _, _, _, ..])
+}
+
+// A reset of a group: 01, length 01 and the range.
+fn read_group_reset(cic: Cic, octet: u8, rest: &[u8]) -> Result<Message<'_>, MessageFault>
+    ensures { seen result ≡ limited octet (as_group_reset cic.0 rest.now) }
+{
+    match rest {
+        [1, 1, range @ 1..=31] => Ok(Message::GroupReset(cic, Range(*range))),
+        [1, 1, _] => Err(MessageFault::Limit(octet)),
+        _ => Err(MessageFault::Layout(octet)),
+    }
+}
+
+// Its acknowledgement: 01 and the range with its status.
+fn read_group_reset_ack(cic: Cic, octet: u8, rest: &[u8]) -> Result<Message<'_>, MessageFault>
+    ensures { seen result ≡ limited octet (as_group_reset_ack cic.0 rest.now) }
+{
+    let [1, part @ ..] = rest else {
+        return Err(MessageFault::Layout(octet));
+    };
+    Ok(Message::GroupResetAck(cic, read_group(octet, 31, part)?))
 }
 
 // A blocking message of a group: an indicator, a pointer, and the range with its status.
-fn read_grouped<'a>(
+fn read_grouped(
     cic: Cic,
-    kind: u8,
+    octet: u8,
     what: Grouped,
-    rest: &'a [u8],
-) -> Result<Message<'a>, MessageFault>
-    ensures { seen result ≡ limited kind (as_grouped cic.0 what rest.now) }
+    rest: &[u8],
+) -> Result<Message<'_>, MessageFault>
+    ensures { seen result ≡ limited octet (as_grouped cic.0 what rest.now) }
 {
-    if rest.len() < 4 || rest[1] != 1 {
-        return Err(MessageFault::Layout(kind));
-    }
-    let (_, part) = rest.split_at(2);
-    let group = read_group(kind, 255, part)?;
-    let why = match rest[0] % 4 {
-        0 => BlockType::Maintenance,
-        1 => BlockType::Hardware,
-        _ => return Err(MessageFault::Limit(kind)),
+    let [indicator, 1, part @ ..] = rest else {
+        return Err(MessageFault::Layout(octet));
     };
-    Ok(Message::Grouped(cic, what, why, group))
+    let group = read_group(octet, 255, part)?;
+    match BlockType::try_from(*indicator % 4) {
+        Ok(why) => Ok(Message::Grouped(cic, what, why, group)),
+        Err(_) => Err(MessageFault::Limit(octet)),
+    }
 }
 
-// The message of a type for a circuit, of which `rest` follows the type.
-fn read_rest<'a>(cic: Cic, kind: u8, rest: &'a [u8]) -> Result<Message<'a>, MessageFault>
-    ensures { seen result ≡ decode_rest kind cic.0 rest.now }
+// The message of a kind, of which `rest` follows the type octet.
+fn read_as(kind: Kind, octet: u8, cic: Cic, rest: &[u8]) -> Result<Message<'_>, MessageFault>
+    ensures { seen result ≡ limited octet (laid_out_as kind cic.0 rest.now) }
 {
     match kind {
-        RSC if rest.len() == 0 => Ok(Message::Single(cic, Single::Rsc)),
-        BLO if rest.len() == 0 => Ok(Message::Single(cic, Single::Blo)),
-        UBL if rest.len() == 0 => Ok(Message::Single(cic, Single::Ubl)),
-        BLA if rest.len() == 0 => Ok(Message::Single(cic, Single::Bla)),
-        UBA if rest.len() == 0 => Ok(Message::Single(cic, Single::Uba)),
-        IAM if rest.len() >= 1 => Ok(Message::Call(cic, CallKind::Iam, rest)),
-        ACM if rest.len() >= 1 => Ok(Message::Call(cic, CallKind::Acm, rest)),
-        CON if rest.len() >= 1 => Ok(Message::Call(cic, CallKind::Con, rest)),
-        ANM if rest.len() >= 1 => Ok(Message::Call(cic, CallKind::Anm, rest)),
-        CPG if rest.len() >= 1 => Ok(Message::Call(cic, CallKind::Cpg, rest)),
-        RLC if rest.len() == 0 || rest.len() == 1 && rest[0] == 0 => {
-            Ok(Message::ReleaseComplete(cic))
-        }
-        REL if is_release(rest) => Ok(Message::Release(cic, &rest[3..5])),
-        GRS if rest.len() == 3 && rest[0] == 1 && rest[1] == 1 && rest[2] >= 1 && rest[2] <= 31 => {
-            Ok(Message::GroupReset(cic, Range(rest[2])))
-        }
-        GRS if rest.len() == 3 && rest[0] == 1 && rest[1] == 1 => Err(MessageFault::Limit(kind)),
-        GRA if rest.len() >= 3 && rest[0] == 1 => {
-            let (_, part) = rest.split_at(1);
-            let group = read_group(kind, 31, part)?;
-            Ok(Message::GroupResetAck(cic, group))
-        }
-        CGB => read_grouped(cic, kind, Grouped::Cgb, rest),
-        CGU => read_grouped(cic, kind, Grouped::Cgu, rest),
-        CGBA => read_grouped(cic, kind, Grouped::Cgba, rest),
-        CGUA => read_grouped(cic, kind, Grouped::Cgua, rest),
-        RSC | BLO | UBL | BLA | UBA | IAM | ACM | CON | ANM | CPG | RLC | REL | GRS | GRA => {
-            Err(MessageFault::Layout(kind))
-        }
-        _ => Err(MessageFault::Unknown(kind)),
+        Kind::Single(what) if rest.is_empty() => Ok(Message::Single(cic, what)),
+        Kind::ReleaseComplete if matches!(rest, [] | [0]) => Ok(Message::ReleaseComplete(cic)),
+        Kind::GroupReset => read_group_reset(cic, octet, rest),
+        Kind::GroupResetAck => read_group_reset_ack(cic, octet, rest),
+        Kind::Grouped(what) => read_grouped(cic, octet, what, rest),
+        Kind::Release if is_release(rest) => Ok(Message::Release(cic, &rest[3..5])),
+        Kind::Call(what) if !rest.is_empty() => Ok(Message::Call(cic, what, rest)),
+        _ => Err(MessageFault::Layout(octet)),
     }
 }
 
@@ -86,10 +77,9 @@ pub fn read(octets: &[u8]) -> Result<Message<'_>, MessageFault>
     ensures value { seen result ≡ decode octets.now }
     ensures format { Reads octets.now (seen result) }
 {
-    if octets.len() < 3 {
+    let [low, high, octet, rest @ ..] = octets else {
         return Err(MessageFault::Short);
-    }
-    let cic = Cic::from_octets(octets[0], octets[1]);
-    let (_, rest) = octets.split_at(3);
-    read_rest(cic, octets[2], rest)
+    };
+    let kind = Kind::try_from(*octet)?;
+    read_as(kind, *octet, Cic::from_octets(*low, *high), rest)
 }

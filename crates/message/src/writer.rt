@@ -45,13 +45,9 @@ fn put_group(
     ensures value { result ≡ written (head.now ++ cleared group.entry.range.0 group.entry.status.now) refusal (length out.old) }
     ensures after { out.new ≡ leaves (head.now ++ cleared group.entry.range.0 group.entry.status.now) out.old result }
 {
-    match put(out, refusal, head, group.status) {
-        Ok(end) => {
-            group.range.clear_spare(&mut out[head.len()..end]);
-            Ok(end)
-        }
-        Err(fault) => Err(fault),
-    }
+    let end = put(out, refusal, head, group.status)?;
+    group.range.clear_spare(&mut out[head.len()..end]);
+    Ok(end)
 }
 
 // Whether a range has the status that it asks for.
@@ -106,7 +102,7 @@ fn refusal(message: Message<'_>) -> Option<MessageFault>
     if !sizes_hold(message) {
         return Some(MessageFault::Layout(kind));
     }
-    if message.cic().0 > Cic::LAST.0 || !limits_hold(message) {
+    if message.cic() > Cic::LAST || !limits_hold(message) {
         return Some(MessageFault::Limit(kind));
     }
     None
@@ -130,7 +126,7 @@ fn lay_out(message: Message<'_>, out: &mut [u8]) -> Result<usize, MessageFault>
         }
         Message::Grouped(_, _, why, group) => {
             let length = group.range.status_octets() as u8 + 1;
-            let head = [low, high, kind, why.indicator(), 1, length, group.range.0];
+            let head = [low, high, kind, u8::from(why), 1, length, group.range.0];
             put_group(out, no, &head, group)
         }
         Message::Release(_, cause) => put(out, no, &[low, high, kind, 2, 0, 2], cause),

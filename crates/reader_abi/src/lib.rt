@@ -22,7 +22,7 @@ fn fields(message: Message<'_>) -> (u8, u8, &[u8])
         Message::ReleaseComplete(_) => (0, 0, &[]),
         Message::GroupReset(_, range) => (0, range.0, &[]),
         Message::GroupResetAck(_, group) => (0, group.range.0, group.status),
-        Message::Grouped(_, _, why, group) => (why.indicator(), group.range.0, group.status),
+        Message::Grouped(_, _, why, group) => (u8::from(why), group.range.0, group.status),
         Message::Release(_, cause) => (0, 0, cause),
         Message::Call(_, _, body) => (0, 0, body),
     }
@@ -32,13 +32,7 @@ fn fields(message: Message<'_>) -> (u8, u8, &[u8])
 fn type_refused(fault: MessageFault) -> u8
     ensures { result ≡ type_refused fault }
 {
-    match fault {
-        MessageFault::NoRoom => 0,
-        MessageFault::Short => 0,
-        MessageFault::Unknown(kind) => kind,
-        MessageFault::Layout(kind) => kind,
-        MessageFault::Limit(kind) => kind,
-    }
+    fault.type_octet().unwrap_or(0)
 }
 
 // The first octet and the last, 0 where there is none.
@@ -46,11 +40,9 @@ fn ends(part: &[u8]) -> (u8, u8)
     ensures first { result.0 ≡ slice_index part.now 0 }
     ensures last { result.1 ≡ slice_index part.now (length part.now - 1) }
 {
-    if part.len() == 0 {
-        (0, 0)
-    } else {
-        (part[0], part[part.len() - 1])
-    }
+    let first = part.first().copied().unwrap_or(0);
+    let last = part.last().copied().unwrap_or(0);
+    (first, last)
 }
 
 // The words of an accepted message.
@@ -97,7 +89,7 @@ pub extern "C" fn setsvoku_read(octets: &[u8], out: &mut [u64]) -> u32
     ensures after { out.new ≡ reported (decode octets.now) out.old }
 {
     if out.len() < WORDS {
-        return 3;
+        return MessageFault::NoRoom.number() as u32;
     }
     match read(octets) {
         Ok(message) => {
