@@ -65,8 +65,8 @@ impl From<ParamFault> for MessageFault {
 
     fn from(fault: ParamFault) -> MessageFault {
         match fault {
-            ParamFault::Layout(kind) => MessageFault::Layout(kind),
-            ParamFault::Limit(kind) => MessageFault::Limit(kind),
+            ParamFault::Layout(octet) => MessageFault::Layout(octet),
+            ParamFault::Limit(octet) => MessageFault::Limit(octet),
         }
     }
 }

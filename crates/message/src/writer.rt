@@ -22,16 +22,15 @@ fn put(
     ensures after { out.new ≡ leaves (head.now ++ tail.now) out.old result }
     ensures end { IfOk result (λ n. (n ≡ length head.now + length tail.now) × (n ≤ length out.old)) }
 {
-    if out.len() < head.len() || out.len() - head.len() < tail.len() {
+    let end = head.len() + tail.len();
+    if out.len() < end {
         return Err(MessageFault::NoRoom);
     }
     if let Some(fault) = refusal {
         return Err(fault);
     }
-    let middle = head.len();
-    let end = middle + tail.len();
-    out[0..middle].copy_from_slice(head);
-    out[middle..end].copy_from_slice(tail);
+    out[..head.len()].copy_from_slice(head);
+    out[head.len()..end].copy_from_slice(tail);
     Ok(end)
 }
 
@@ -62,13 +61,11 @@ fn sizes_hold(message: Message<'_>) -> bool
     ensures { result ≡ sized (meaning message.entry) }
 {
     match message {
-        Message::Single(_, _) => true,
-        Message::ReleaseComplete(_) => true,
-        Message::GroupReset(_, _) => true,
+        Message::Single(_, _) | Message::ReleaseComplete(_) | Message::GroupReset(_, _) => true,
         Message::GroupResetAck(_, group) => is_sized(group),
         Message::Grouped(_, _, _, group) => is_sized(group),
         Message::Release(_, cause) => cause.len() == 2,
-        Message::Call(_, _, body) => body.len() >= 1,
+        Message::Call(_, _, body) => !body.is_empty(),
     }
 }
 
@@ -76,7 +73,7 @@ fn sizes_hold(message: Message<'_>) -> bool
 fn is_within(most: u8, group: Group<'_>) -> bool
     ensures { result ≡ is_group_within most group.entry.range.0 group.entry.status.now }
 {
-    group.range.0 >= 1 && group.range.0 <= most && group.count_set() <= 32
+    (1..=most).contains(&group.range.0) && group.count_set() <= 32
 }
 
 // Whether range and number of set bits keep the limits.
@@ -84,13 +81,11 @@ fn limits_hold(message: Message<'_>) -> bool
     ensures { result ≡ within (meaning message.entry) }
 {
     match message {
-        Message::Single(_, _) => true,
-        Message::ReleaseComplete(_) => true,
-        Message::GroupReset(_, range) => range.0 >= 1 && range.0 <= 31,
+        Message::Single(_, _) | Message::ReleaseComplete(_) => true,
+        Message::GroupReset(_, range) => (1..=31).contains(&range.0),
         Message::GroupResetAck(_, group) => is_within(31, group),
         Message::Grouped(_, _, _, group) => is_within(255, group),
-        Message::Release(_, _) => true,
-        Message::Call(_, _, _) => true,
+        Message::Release(_, _) | Message::Call(_, _, _) => true,
     }
 }
 
@@ -98,12 +93,12 @@ fn limits_hold(message: Message<'_>) -> bool
 fn refusal(message: Message<'_>) -> Option<MessageFault>
     ensures { result ≡ refusal_of (meaning message.entry) }
 {
-    let kind = message.type_octet();
+    let octet = message.type_octet();
     if !sizes_hold(message) {
-        return Some(MessageFault::Layout(kind));
+        return Some(MessageFault::Layout(octet));
     }
     if message.cic() > Cic::LAST || !limits_hold(message) {
-        return Some(MessageFault::Limit(kind));
+        return Some(MessageFault::Limit(octet));
     }
     None
 }
@@ -114,23 +109,24 @@ fn lay_out(message: Message<'_>, out: &mut [u8]) -> Result<usize, MessageFault>
     ensures after { out.new ≡ leaves (encode (meaning message.entry)) out.old result }
 {
     let [low, high] = message.cic().octets();
-    let kind = message.type_octet();
-    let no = refusal(message);
+    let octet = message.type_octet();
+    let refusal = refusal(message);
     match message {
-        Message::Single(_, _) => put(out, no, &[low, high, kind], &[]),
-        Message::ReleaseComplete(_) => put(out, no, &[low, high, kind, 0], &[]),
-        Message::GroupReset(_, range) => put(out, no, &[low, high, kind, 1, 1, range.0], &[]),
+        Message::Single(_, _) => put(out, refusal, &[low, high, octet], &[]),
+        Message::ReleaseComplete(_) => put(out, refusal, &[low, high, octet, 0], &[]),
+        Message::GroupReset(_, range) => put(out, refusal, &[low, high, octet, 1, 1, range.0], &[]),
         Message::GroupResetAck(_, group) => {
             let length = group.range.status_octets() as u8 + 1;
-            put_group(out, no, &[low, high, kind, 1, length, group.range.0], group)
+            let head = [low, high, octet, 1, length, group.range.0];
+            put_group(out, refusal, &head, group)
         }
         Message::Grouped(_, _, why, group) => {
             let length = group.range.status_octets() as u8 + 1;
-            let head = [low, high, kind, u8::from(why), 1, length, group.range.0];
-            put_group(out, no, &head, group)
+            let head = [low, high, octet, u8::from(why), 1, length, group.range.0];
+            put_group(out, refusal, &head, group)
         }
-        Message::Release(_, cause) => put(out, no, &[low, high, kind, 2, 0, 2], cause),
-        Message::Call(_, _, body) => put(out, no, &[low, high, kind], body),
+        Message::Release(_, cause) => put(out, refusal, &[low, high, octet, 2, 0, 2], cause),
+        Message::Call(_, _, body) => put(out, refusal, &[low, high, octet], body),
     }
 }
 
