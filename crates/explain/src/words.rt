@@ -83,7 +83,7 @@ fn show_group<W: fmt::Write>(cic: Cic, group: Group<'_>, f: &mut fmt::Formatter<
     let range = group.range.0;
     write!(f, " range={range} set=")?;
     let mut none = true;
-    for circuit in group.range.named(cic, group.status) {
+    for circuit in group.named(cic) {
         if !none {
             write!(f, ",")?;
         }

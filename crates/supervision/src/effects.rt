@@ -119,7 +119,7 @@ pub(crate) fn sweep<P: Policy>(
     let mut count = 0;
     for n in 0..group.range.0 as usize + 1 {
         let place = Place(first.0 + n);
-        if group.range.is_set(group.status, n as u8) && table[place.0].equipped {
+        if group.is_set(n as u8) && table[place.0].equipped {
             count = visit(trunk, place, rule, table, policy, words, count);
         }
     }

@@ -119,7 +119,7 @@ fn all_pass(first: Place, group: Group<'_>, test: Test, table: &[Circuit]) -> bo
     ensures { result ≡ not (some_from (λ k c. covers first.0 group.entry.range.0 group.entry.status.now k && not (passes test c)) 0 table.now) }
 {
     for n in 0..group.range.0 as usize + 1 {
-        if group.range.is_set(group.status, n as u8) && !test.passes(table[first.0 + n]) {
+        if group.is_set(n as u8) && !test.passes(table[first.0 + n]) {
             return false;
         }
     }
