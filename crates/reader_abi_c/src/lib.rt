@@ -1,4 +1,5 @@
 // The static library for callers of C: the reader of `reader_abi` under its name.
+// C needs a static library of its own, and a library that other crates stand on is none.
 #![tactic(auto)]
 
 ghost use Rattle.std.specs.Prelude.{◌≡◌, length};
