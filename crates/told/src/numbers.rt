@@ -1,0 +1,123 @@
+// The numbers of what a host is told, and the 32 bits that say it.
+ghost use Rattle.std.specs.Prelude.{◌≡◌, Some};
+ghost use Rattle.std.specs.Result.{result_ok};
+ghost use Rattle.told.specs.Words.{cause_number, cause_of, timer_number, timer_of, number_of, word_of, Fits};
+
+use crate::kinds::{Direction, EndCause, Timer, Word};
+use status::Cic;
+use std::error::Error;
+use std::fmt;
+
+// A number that says no cause, timer or word.
+#[derive(Clone, Copy, PartialEq, Eq, Debug)]
+pub struct UnknownNumber;
+
+impl fmt::Display for UnknownNumber {
+    fn fmt<W: fmt::Write>(&self, f: &mut fmt::Formatter<W>) -> fmt::Result {
+        write!(f, "the number says nothing")
+    }
+}
+
+impl Error for UnknownNumber {}
+
+impl From<EndCause> for u8 {
+    ghost from_gives = { λ cause number. number ≡ cause_number cause };
+
+    fn from(cause: EndCause) -> u8 {
+        cause as u8
+    }
+}
+
+impl TryFrom<u32> for EndCause {
+    type Error = UnknownNumber;
+
+    ghost try_from_gives = { λ number read. result_ok read ≡ cause_of number };
+
+    fn try_from(number: u32) -> Result<EndCause, UnknownNumber> {
+        match number {
+            1 => Ok(EndCause::ReleaseReceived),
+            2 => Ok(EndCause::ReleaseComplete),
+            3 => Ok(EndCause::Reset),
+            4 => Ok(EndCause::HardwareBlock),
+            5 => Ok(EndCause::DualSeizure),
+            _ => Err(UnknownNumber),
+        }
+    }
+}
+
+impl From<Timer> for u8 {
+    ghost from_gives = { λ timer number. number ≡ timer_number timer };
+
+    fn from(timer: Timer) -> u8 {
+        timer as u8
+    }
+}
+
+impl TryFrom<u32> for Timer {
+    type Error = UnknownNumber;
+
+    ghost try_from_gives = { λ number read. result_ok read ≡ timer_of number };
+
+    fn try_from(number: u32) -> Result<Timer, UnknownNumber> {
+        match number {
+            1 => Ok(Timer::T1),
+            5 => Ok(Timer::T5),
+            12 => Ok(Timer::T12),
+            13 => Ok(Timer::T13),
+            14 => Ok(Timer::T14),
+            15 => Ok(Timer::T15),
+            16 => Ok(Timer::T16),
+            17 => Ok(Timer::T17),
+            18 => Ok(Timer::T18),
+            19 => Ok(Timer::T19),
+            20 => Ok(Timer::T20),
+            21 => Ok(Timer::T21),
+            22 => Ok(Timer::T22),
+            23 => Ok(Timer::T23),
+            _ => Err(UnknownNumber),
+        }
+    }
+}
+
+impl From<Word> for u32 {
+    ghost from_gives = { λ word number. (number ≡ number_of word) × (Fits word → word_of number ≡ Some word) };
+
+    // Of a place and a CIC the low twelve bits are told.
+    fn from(word: Word) -> u32 {
+        match word {
+            Word::Send(place, length) => {
+                0x1000_0000 + u32::from(place % 4096) * 65536 + u32::from(length)
+            }
+            Word::Begun(Direction::Outgoing, cic) => 0x2000_0000 + u32::from(cic.0 % 4096),
+            Word::Begun(Direction::Incoming, cic) => 0x2000_1000 + u32::from(cic.0 % 4096),
+            Word::Ended(cause, cic) => {
+                0x3000_0000 + cause as u32 * 4096 + u32::from(cic.0 % 4096)
+            }
+            Word::Alert(timer, cic) => {
+                0x4000_0000 + timer as u32 * 4096 + u32::from(cic.0 % 4096)
+            }
+        }
+    }
+}
+
+impl TryFrom<u32> for Word {
+    type Error = UnknownNumber;
+
+    ghost try_from_gives = { λ number read. result_ok read ≡ word_of number };
+
+    fn try_from(number: u32) -> Result<Word, UnknownNumber> {
+        let cic = Cic((number % 4096) as u16);
+        let field = number / 4096 % 65536;
+        match number / 0x1000_0000 {
+            1 => {
+                let place = (number / 65536 % 4096) as u16;
+                Ok(Word::Send(place, (number % 65536) as u16))
+            }
+            2 if field == 0 => Ok(Word::Begun(Direction::Outgoing, cic)),
+            2 if field == 1 => Ok(Word::Begun(Direction::Incoming, cic)),
+            3 => Ok(Word::Ended(EndCause::try_from(field)?, cic)),
+            4 => Ok(Word::Alert(Timer::try_from(field)?, cic)),
+            _ => Err(UnknownNumber),
+        }
+    }
+}
