@@ -3,6 +3,8 @@ ghost use Rattle.std.specs.Prelude.{◌≡◌};
 ghost use Rattle.refusal.specs.Refusals.{refused_as, number_of, type_in};
 
 use message::MessageFault;
+use std::error::Error;
+use std::fmt;
 
 // The first that holds is answered; nothing is changed then.
 #[derive(Clone, Copy, PartialEq, Eq, Debug)]
@@ -56,13 +58,23 @@ impl Refusal {
         ensures { result ≡ type_in self }
     {
         match self {
-            Refusal::Unknown(kind) => Some(kind),
-            Refusal::Layout(kind) => Some(kind),
-            Refusal::Limit(kind) => Some(kind),
+            Refusal::Unknown(kind) | Refusal::Layout(kind) | Refusal::Limit(kind) => Some(kind),
             _ => None,
         }
     }
 }
+
+impl fmt::Display for Refusal {
+    fn fmt<W: fmt::Write>(&self, f: &mut fmt::Formatter<W>) -> fmt::Result {
+        write!(f, "refused {}", self.number())?;
+        match self.type_octet() {
+            Some(kind) => write!(f, " type={kind:02X}"),
+            None => Ok(()),
+        }
+    }
+}
+
+impl Error for Refusal {}
 
 impl From<MessageFault> for Refusal {
     ghost from_gives = { λ f r. r ≡ refused_as f };
