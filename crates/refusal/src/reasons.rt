@@ -17,7 +17,8 @@ pub enum Refusal {
     Buffers,
     // a message of fewer than three octets
     Short,
-    // a type that is not listed, a layout and a limit that are not kept, each with the type octet
+    // a type that is not listed, a layout and a limit that are not kept, each with the type octet:
+    // a number and no kind, since one that is not listed has no name
     Unknown(u8),
     Layout(u8),
     Limit(u8),
@@ -34,6 +35,7 @@ pub enum Refusal {
 }
 
 impl Refusal {
+    // A match and no discriminants, since three carry an octet.
     pub fn number(self) -> u8
         ensures { result ≡ number_of self }
     {
