@@ -1,5 +1,7 @@
 -- Parts of a rule: one field of a record changed, a call ended.
 use Rattle.std.specs.Prelude.{Bool, cond, Some, None, Option}
+use Rattle.message.specs.declared.kinds.BlockType.{BlockType}
+use Rattle.message.specs.declared.kinds.BlockType.TheVariants.{Maintenance, Hardware}
 use Rattle.circuit.specs.declared.record.Call.{Call}
 use Rattle.circuit.specs.declared.record.Call.TheVariants.{Idle}
 use Rattle.circuit.specs.declared.record.LocalBlock.{LocalBlock}
@@ -10,6 +12,7 @@ use Rattle.circuit.specs.declared.record.Circuit.{Circuit}
 use Rattle.circuit.specs.declared.rules.Change.{Change}
 use Rattle.told.specs.declared.kinds.Direction.{Direction}
 use Rattle.told.specs.declared.kinds.EndCause.{EndCause}
+use Rattle.told.specs.declared.kinds.EndCause.TheVariants as end
 use Rattle.circuit.specs.Circuits.{is_idle}
 
 abbrev pub with_call : Call → Circuit → Circuit
@@ -41,3 +44,8 @@ quiet c = change c None None
 -- the call is ended
 abbrev pub ending : EndCause → Circuit → Change
 ending cause c = change (with_call Idle c) (ended_if cause c.call) None
+
+-- what a block does to the call: one for hardware ends it, one for maintenance lets it go on
+abbrev pub under_block : BlockType → Circuit → Change
+under_block Maintenance c = quiet c
+under_block Hardware c = ending end.HardwareBlock c

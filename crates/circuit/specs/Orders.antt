@@ -1,7 +1,6 @@
 -- What the orders of our side do to one circuit.
 use Rattle.std.specs.Prelude.{Some, None}
 use Rattle.message.specs.declared.kinds.BlockType.{BlockType}
-use Rattle.message.specs.declared.kinds.BlockType.TheVariants.{Maintenance, Hardware}
 use Rattle.circuit.specs.declared.record.Call.TheVariants.{Calling, Releasing}
 use Rattle.circuit.specs.declared.record.LocalBlock.{LocalBlock}
 use Rattle.circuit.specs.declared.record.LocalBlock.TheVariants as local
@@ -14,7 +13,7 @@ use Rattle.circuit.specs.declared.rules.Rule.TheVariants as rule
 use Rattle.told.specs.declared.kinds.Direction.TheVariants.{Outgoing}
 use Rattle.told.specs.declared.kinds.EndCause.TheVariants as end
 use Rattle.circuit.specs.Circuits.{block_of, with_block, no_local, no_far}
-use Rattle.circuit.specs.Changes.{with_call, with_locals, with_fars, with_reset, with_cause, change, quiet, ending}
+use Rattle.circuit.specs.Changes.{with_call, with_locals, with_fars, with_reset, with_cause, change, quiet, ending, under_block}
 
 -- seizing: begun, calling
 abbrev pub on_seize : Circuit → Change
@@ -26,8 +25,7 @@ on_release cause c = quiet (with_cause cause (with_call Releasing c))
 
 -- blocking: asked; a hardware block ends the call
 abbrev pub on_block : BlockType → Circuit → Change
-on_block Maintenance c = quiet (with_locals (with_block Maintenance local.Asked c.local) c)
-on_block Hardware c = ending end.HardwareBlock (with_locals (with_block Hardware local.Asked c.local) c)
+on_block why c = under_block why (with_locals (with_block why local.Asked c.local) c)
 
 -- none stays none
 abbrev pub lifted : LocalBlock → LocalBlock

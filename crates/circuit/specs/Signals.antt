@@ -14,7 +14,7 @@ use Rattle.circuit.specs.declared.rules.Change.{Change}
 use Rattle.told.specs.declared.kinds.Direction.TheVariants.{Incoming}
 use Rattle.told.specs.declared.kinds.EndCause.TheVariants as end
 use Rattle.circuit.specs.Circuits.{is_none, is_set, is_waiting, is_calling, is_connected, block_of, with_block, no_far}
-use Rattle.circuit.specs.Changes.{with_call, with_locals, with_fars, with_reset, with_cause, change, quiet, ending}
+use Rattle.circuit.specs.Changes.{with_call, with_locals, with_fars, with_reset, with_cause, change, quiet, ending, under_block}
 
 -- IAM does nothing while a reset waits, the local hardware block is not none, the local maintenance block is set,
 -- or the call is talking or releasing, nor on a calling circuit that we control
@@ -61,8 +61,7 @@ on_rlc reset.Group c = on_rlc_call c.call c
 
 -- BLO, and CGB for its type: the far block is set; one for hardware ends the call
 abbrev pub on_far_block : BlockType → Circuit → Change
-on_far_block Maintenance c = quiet (with_fars (with_block Maintenance true c.far) c)
-on_far_block Hardware c = ending end.HardwareBlock (with_fars (with_block Hardware true c.far) c)
+on_far_block why c = under_block why (with_fars (with_block why true c.far) c)
 
 -- UBL, and CGU for its type: the far block is removed
 abbrev pub on_far_unblock : BlockType → Circuit → Change

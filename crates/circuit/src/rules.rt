@@ -1,6 +1,6 @@
 // What the orders of our side do to one circuit.
 ghost use Rattle.std.specs.Prelude.{◌≡◌, true};
-ghost use Rattle.circuit.specs.Changes.{quiet, ending};
+ghost use Rattle.circuit.specs.Changes.{quiet, ending, under_block};
 ghost use Rattle.circuit.specs.Laws.{Keeps, allows};
 ghost use Rattle.circuit.specs.Orders.{on_seize, on_release, on_block, on_unblock, on_reset, applied};
 
@@ -53,6 +53,16 @@ impl Change {
             })
         }
     }
+
+    // What a block does to the call: one for hardware ends it, one for maintenance lets it go on.
+    fn under_block(why: BlockType, circuit: Circuit) -> Change
+        ensures { result ≡ under_block why circuit }
+    {
+        match why {
+            BlockType::Maintenance => Change::quiet(circuit),
+            BlockType::Hardware => Change::ending(EndCause::HardwareBlock, circuit),
+        }
+    }
 }
 
 impl Circuit {
@@ -78,16 +88,11 @@ impl Circuit {
         })
     }
 
-    // A hardware block ends the call, a maintenance block lets it go on.
     fn blocked(self, why: BlockType) -> Change
         ensures { result ≡ on_block why self }
     {
         let local = self.local.with(why, LocalBlock::Asked);
-        let asked = Circuit { local, ..self };
-        match why {
-            BlockType::Maintenance => Change::quiet(asked),
-            BlockType::Hardware => Change::ending(EndCause::HardwareBlock, asked),
-        }
+        Change::under_block(why, Circuit { local, ..self })
     }
 
     fn unblocked(self, why: BlockType) -> Change
