@@ -28,6 +28,7 @@ impl From<EndCause> for u8 {
     }
 }
 
+// Here and for timers a row for each variant: a cast gives a variant's number, and not the variant of a number.
 impl TryFrom<u32> for EndCause {
     type Error = UnknownNumber;
 
