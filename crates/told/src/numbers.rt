@@ -1,5 +1,5 @@
 // The numbers of what a host is told, and the 32 bits that say it.
-ghost use Rattle.std.specs.Prelude.{◌≡◌, Some};
+ghost use Rattle.std.specs.Prelude.{◌≡◌, ◌+◌, ◌*◌, ◌/◌, ◌%◌, ◌<◌, Some};
 ghost use Rattle.std.specs.Result.{result_ok};
 ghost use Rattle.told.specs.Words.{cause_number, cause_of, timer_number, timer_of, number_of, word_of, Fits};
 
@@ -80,6 +80,18 @@ impl TryFrom<u32> for Timer {
     }
 }
 
+// A word about a circuit: its kind, a field, and the low twelve bits of the CIC.
+fn circuit_word(kind: u32, field: u32, cic: Cic) -> u32
+    requires kind { kind < 16 }
+    requires field { field < 65536 }
+    ensures value { result ≡ kind * 0x1000_0000 + field * 4096 + cic.0 % 4096 }
+    ensures kind { result / 0x1000_0000 ≡ kind }
+    ensures field { result / 4096 % 65536 ≡ field }
+    ensures cic { result % 4096 ≡ cic.0 % 4096 }
+{
+    kind * 0x1000_0000 + field * 4096 + u32::from(cic.0 % 4096)
+}
+
 impl From<Word> for u32 {
     ghost from_gives = { λ word number. (number ≡ number_of word) × (Fits word → word_of number ≡ Some word) };
 
@@ -89,14 +101,10 @@ impl From<Word> for u32 {
             Word::Send(place, length) => {
                 0x1000_0000 + u32::from(place % 4096) * 65536 + u32::from(length)
             }
-            Word::Begun(Direction::Outgoing, cic) => 0x2000_0000 + u32::from(cic.0 % 4096),
-            Word::Begun(Direction::Incoming, cic) => 0x2000_1000 + u32::from(cic.0 % 4096),
-            Word::Ended(cause, cic) => {
-                0x3000_0000 + cause as u32 * 4096 + u32::from(cic.0 % 4096)
-            }
-            Word::Alert(timer, cic) => {
-                0x4000_0000 + timer as u32 * 4096 + u32::from(cic.0 % 4096)
-            }
+            Word::Begun(Direction::Outgoing, cic) => circuit_word(2, 0, cic),
+            Word::Begun(Direction::Incoming, cic) => circuit_word(2, 1, cic),
+            Word::Ended(cause, cic) => circuit_word(3, cause as u32, cic),
+            Word::Alert(timer, cic) => circuit_word(4, timer as u32, cic),
         }
     }
 }
