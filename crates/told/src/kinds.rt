@@ -5,8 +5,8 @@ use std::fmt;
 // Who began a call.
 #[derive(Clone, Copy, PartialEq, Eq, Debug)]
 pub enum Direction {
-    Outgoing,
-    Incoming,
+    Outgoing = 0,
+    Incoming = 1,
 }
 
 // Why a call ended.

@@ -101,8 +101,7 @@ impl From<Word> for u32 {
             Word::Send(place, length) => {
                 0x1000_0000 + u32::from(place % 4096) * 65536 + u32::from(length)
             }
-            Word::Begun(Direction::Outgoing, cic) => circuit_word(2, 0, cic),
-            Word::Begun(Direction::Incoming, cic) => circuit_word(2, 1, cic),
+            Word::Begun(direction, cic) => circuit_word(2, direction as u32, cic),
             Word::Ended(cause, cic) => circuit_word(3, cause as u32, cic),
             Word::Alert(timer, cic) => circuit_word(4, timer as u32, cic),
         }
