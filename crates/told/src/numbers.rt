@@ -116,15 +116,15 @@ impl TryFrom<u32> for Word {
     fn try_from(number: u32) -> Result<Word, UnknownNumber> {
         let cic = Cic((number % 4096) as u16);
         let field = number / 4096 % 65536;
-        match number / 0x1000_0000 {
-            1 => {
+        match (number / 0x1000_0000, field) {
+            (1, _) => {
                 let place = (number / 65536 % 4096) as u16;
                 Ok(Word::Send(place, (number % 65536) as u16))
             }
-            2 if field == 0 => Ok(Word::Begun(Direction::Outgoing, cic)),
-            2 if field == 1 => Ok(Word::Begun(Direction::Incoming, cic)),
-            3 => Ok(Word::Ended(EndCause::try_from(field)?, cic)),
-            4 => Ok(Word::Alert(Timer::try_from(field)?, cic)),
+            (2, 0) => Ok(Word::Begun(Direction::Outgoing, cic)),
+            (2, 1) => Ok(Word::Begun(Direction::Incoming, cic)),
+            (3, cause) => Ok(Word::Ended(EndCause::try_from(cause)?, cic)),
+            (4, timer) => Ok(Word::Alert(Timer::try_from(timer)?, cic)),
             _ => Err(UnknownNumber),
         }
     }
