@@ -1,27 +1,27 @@
 -- Parts of a rule: one field of a record changed, a call ended.
-use Rattle.std.specs.Prelude.{Bool, false, cond, Some, None, Option}
+use Rattle.std.specs.Prelude.{Bool, cond, Some, None, Option}
 use Rattle.message.specs.declared.kinds.BlockType.{BlockType}
 use Rattle.message.specs.declared.kinds.BlockType.TheVariants.{Maintenance, Hardware}
 use Rattle.circuit.specs.declared.record.Call.{Call}
 use Rattle.circuit.specs.declared.record.Call.TheVariants.{Idle}
 use Rattle.circuit.specs.declared.record.LocalBlock.{LocalBlock}
-use Rattle.circuit.specs.declared.record.LocalBlocks.{LocalBlocks}
-use Rattle.circuit.specs.declared.record.FarBlocks.{FarBlocks}
+use Rattle.circuit.specs.declared.record.Blocks.{Blocks}
 use Rattle.circuit.specs.declared.record.Reset.{Reset}
 use Rattle.circuit.specs.declared.record.Cause.{Cause}
 use Rattle.circuit.specs.declared.record.Circuit.{Circuit}
 use Rattle.circuit.specs.declared.rules.Change.{Change}
 use Rattle.told.specs.declared.kinds.Direction.{Direction}
 use Rattle.told.specs.declared.kinds.EndCause.{EndCause}
+use Rattle.told.specs.declared.kinds.EndCause.TheVariants as end
 use Rattle.circuit.specs.Circuits.{is_idle}
 
 abbrev pub with_call : Call → Circuit → Circuit
 with_call x c = record { equipped = c.equipped; call = x; local = c.local; far = c.far; reset = c.reset; cause = c.cause }
 
-abbrev pub with_locals : LocalBlocks → Circuit → Circuit
+abbrev pub with_locals : Blocks LocalBlock → Circuit → Circuit
 with_locals x c = record { equipped = c.equipped; call = c.call; local = x; far = c.far; reset = c.reset; cause = c.cause }
 
-abbrev pub with_fars : FarBlocks → Circuit → Circuit
+abbrev pub with_fars : Blocks Bool → Circuit → Circuit
 with_fars x c = record { equipped = c.equipped; call = c.call; local = c.local; far = x; reset = c.reset; cause = c.cause }
 
 abbrev pub with_reset : Reset → Circuit → Circuit
@@ -29,18 +29,6 @@ with_reset x c = record { equipped = c.equipped; call = c.call; local = c.local;
 
 abbrev pub with_cause : Cause → Circuit → Circuit
 with_cause x c = record { equipped = c.equipped; call = c.call; local = c.local; far = c.far; reset = c.reset; cause = x }
-
--- one block of the two
-abbrev pub with_local : BlockType → LocalBlock → LocalBlocks → LocalBlocks
-with_local Maintenance b l = record { maintenance = b; hardware = l.hardware }
-with_local Hardware b l = record { maintenance = l.maintenance; hardware = b }
-
-abbrev pub with_far : BlockType → Bool → FarBlocks → FarBlocks
-with_far Maintenance b f = record { maintenance = b; hardware = f.hardware }
-with_far Hardware b f = record { maintenance = f.maintenance; hardware = b }
-
-abbrev pub no_far : FarBlocks
-no_far = record { maintenance = false; hardware = false }
 
 -- the end that is told where a call is ended: none of an idle one
 abbrev pub ended_if : EndCause → Call → Option EndCause
@@ -56,3 +44,8 @@ quiet c = change c None None
 -- the call is ended
 abbrev pub ending : EndCause → Circuit → Change
 ending cause c = change (with_call Idle c) (ended_if cause c.call) None
+
+-- what a block does to the call: one for hardware ends it, one for maintenance lets it go on
+abbrev pub under_block : BlockType → Circuit → Change
+under_block Maintenance c = quiet c
+under_block Hardware c = ending end.HardwareBlock c

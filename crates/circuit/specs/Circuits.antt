@@ -6,7 +6,7 @@ use Rattle.circuit.specs.declared.record.Call.{Call}
 use Rattle.circuit.specs.declared.record.Call.TheVariants.{Idle, Calling, Talking, Releasing}
 use Rattle.circuit.specs.declared.record.LocalBlock.{LocalBlock}
 use Rattle.circuit.specs.declared.record.LocalBlock.TheVariants as local
-use Rattle.circuit.specs.declared.record.LocalBlocks.{LocalBlocks}
+use Rattle.circuit.specs.declared.record.Blocks.{Blocks}
 use Rattle.circuit.specs.declared.record.Reset.{Reset}
 use Rattle.circuit.specs.declared.record.Reset.TheVariants as reset
 use Rattle.circuit.specs.declared.record.Circuit.{Circuit}
@@ -83,9 +83,15 @@ is_group reset.None = false
 is_group reset.Single = false
 is_group reset.Group = true
 
-abbrev pub local_of : BlockType → LocalBlocks → LocalBlock
-local_of Maintenance l = l.maintenance
-local_of Hardware l = l.hardware
+-- what is kept for one type of block
+abbrev pub block_of : {X : Type 0} → BlockType → Blocks X → X
+block_of Maintenance b = b.maintenance
+block_of Hardware b = b.hardware
+
+-- another value for one type
+abbrev pub with_block : {X : Type 0} → BlockType → X → Blocks X → Blocks X
+with_block Maintenance x b = record { maintenance = x; hardware = b.hardware }
+with_block Hardware x b = record { maintenance = b.maintenance; hardware = x }
 
 -- the call is not idle
 abbrev pub is_engaged : Circuit → Bool
@@ -101,13 +107,20 @@ is_sound c =
     (is_idle c.call || (not (is_waiting c.reset) && (is_none c.local.hardware && not c.far.hardware)))
     && (not (is_waiting c.reset) || (is_none c.local.maintenance && is_none c.local.hardware))
 
+-- no block of either type
+abbrev pub no_local : Blocks LocalBlock
+no_local = record { maintenance = local.None; hardware = local.None }
+
+abbrev pub no_far : Blocks Bool
+no_far = record { maintenance = false; hardware = false }
+
 -- newly opened: idle, no blocks, no reset, cause octets 0
 abbrev pub fresh : Bool → Circuit
 fresh e = record {
   equipped = e;
   call = Idle;
-  local = record { maintenance = local.None; hardware = local.None };
-  far = record { maintenance = false; hardware = false };
+  local = no_local;
+  far = no_far;
   reset = reset.None;
   cause = record { location = 0; value = 0 };
 }

@@ -1,8 +1,7 @@
 -- What the orders of our side do to one circuit.
 use Rattle.std.specs.Prelude.{Some, None}
 use Rattle.message.specs.declared.kinds.BlockType.{BlockType}
-use Rattle.message.specs.declared.kinds.BlockType.TheVariants.{Maintenance, Hardware}
-use Rattle.circuit.specs.declared.record.Call.TheVariants.{Idle, Calling, Releasing}
+use Rattle.circuit.specs.declared.record.Call.TheVariants.{Calling, Releasing}
 use Rattle.circuit.specs.declared.record.LocalBlock.{LocalBlock}
 use Rattle.circuit.specs.declared.record.LocalBlock.TheVariants as local
 use Rattle.circuit.specs.declared.record.Reset.{Reset}
@@ -13,8 +12,8 @@ use Rattle.circuit.specs.declared.rules.Rule.{Rule}
 use Rattle.circuit.specs.declared.rules.Rule.TheVariants as rule
 use Rattle.told.specs.declared.kinds.Direction.TheVariants.{Outgoing}
 use Rattle.told.specs.declared.kinds.EndCause.TheVariants as end
-use Rattle.circuit.specs.Circuits.{local_of}
-use Rattle.circuit.specs.Changes.{with_call, with_locals, with_local, with_cause, no_far, ended_if, change, quiet, ending}
+use Rattle.circuit.specs.Circuits.{block_of, with_block, no_local, no_far}
+use Rattle.circuit.specs.Changes.{with_call, with_locals, with_fars, with_reset, with_cause, change, quiet, ending, under_block}
 
 -- seizing: begun, calling
 abbrev pub on_seize : Circuit → Change
@@ -26,8 +25,7 @@ on_release cause c = quiet (with_cause cause (with_call Releasing c))
 
 -- blocking: asked; a hardware block ends the call
 abbrev pub on_block : BlockType → Circuit → Change
-on_block Maintenance c = quiet (with_locals (with_local Maintenance local.Asked c.local) c)
-on_block Hardware c = ending end.HardwareBlock (with_locals (with_local Hardware local.Asked c.local) c)
+on_block why c = under_block why (with_locals (with_block why local.Asked c.local) c)
 
 -- none stays none
 abbrev pub lifted : LocalBlock → LocalBlock
@@ -38,21 +36,11 @@ lifted local.Lifting = local.Lifting
 
 -- unblocking: lifting
 abbrev pub on_unblock : BlockType → Circuit → Change
-on_unblock why c = quiet (with_locals (with_local why (lifted (local_of why c.local)) c.local) c)
+on_unblock why c = quiet (with_locals (with_block why (lifted (block_of why c.local)) c.local) c)
 
 -- a reset ends the call, clears all four blocks and waits for its answer
 abbrev pub on_reset : Reset → Circuit → Change
-on_reset how c = change
-    (record {
-      equipped = c.equipped;
-      call = Idle;
-      local = record { maintenance = local.None; hardware = local.None };
-      far = no_far;
-      reset = how;
-      cause = c.cause;
-    })
-    (ended_if end.Reset c.call)
-    None
+on_reset how c = ending end.Reset (with_reset how (with_fars no_far (with_locals no_local c)))
 
 abbrev pub applied : Rule → Circuit → Change
 applied rule.Seize c = on_seize c

@@ -13,8 +13,8 @@ use Rattle.circuit.specs.declared.record.Circuit.{Circuit}
 use Rattle.circuit.specs.declared.rules.Change.{Change}
 use Rattle.told.specs.declared.kinds.Direction.TheVariants.{Incoming}
 use Rattle.told.specs.declared.kinds.EndCause.TheVariants as end
-use Rattle.circuit.specs.Circuits.{is_none, is_set, is_waiting, is_calling, is_connected, local_of}
-use Rattle.circuit.specs.Changes.{with_call, with_locals, with_local, with_fars, with_far, with_reset, with_cause, no_far, change, quiet, ending}
+use Rattle.circuit.specs.Circuits.{is_none, is_set, is_waiting, is_calling, is_connected, block_of, with_block, no_far}
+use Rattle.circuit.specs.Changes.{with_call, with_locals, with_fars, with_reset, with_cause, change, quiet, ending, under_block}
 
 -- IAM does nothing while a reset waits, the local hardware block is not none, the local maintenance block is set,
 -- or the call is talking or releasing, nor on a calling circuit that we control
@@ -61,12 +61,11 @@ on_rlc reset.Group c = on_rlc_call c.call c
 
 -- BLO, and CGB for its type: the far block is set; one for hardware ends the call
 abbrev pub on_far_block : BlockType → Circuit → Change
-on_far_block Maintenance c = quiet (with_fars (with_far Maintenance true c.far) c)
-on_far_block Hardware c = ending end.HardwareBlock (with_fars (with_far Hardware true c.far) c)
+on_far_block why c = under_block why (with_fars (with_block why true c.far) c)
 
 -- UBL, and CGU for its type: the far block is removed
 abbrev pub on_far_unblock : BlockType → Circuit → Change
-on_far_unblock why c = quiet (with_fars (with_far why false c.far) c)
+on_far_unblock why c = quiet (with_fars (with_block why false c.far) c)
 
 -- BLA, and CGBA for its type: asked becomes set
 abbrev pub acknowledged : LocalBlock → LocalBlock
@@ -76,7 +75,7 @@ acknowledged local.Set = local.Set
 acknowledged local.Lifting = local.Lifting
 
 abbrev pub on_block_ack : BlockType → Circuit → Change
-on_block_ack why c = quiet (with_locals (with_local why (acknowledged (local_of why c.local)) c.local) c)
+on_block_ack why c = quiet (with_locals (with_block why (acknowledged (block_of why c.local)) c.local) c)
 
 -- a block that is asked or set is asked again
 abbrev pub asked_again : LocalBlock → LocalBlock
@@ -93,7 +92,7 @@ unlocked local.Set = local.Asked
 unlocked local.Lifting = local.None
 
 abbrev pub on_unblock_ack : BlockType → Circuit → Change
-on_unblock_ack why c = quiet (with_locals (with_local why (unlocked (local_of why c.local)) c.local) c)
+on_unblock_ack why c = quiet (with_locals (with_block why (unlocked (block_of why c.local)) c.local) c)
 
 -- RSC ends the call and removes both far blocks; our own blocks are asked again
 abbrev pub on_rsc : Circuit → Change
@@ -102,10 +101,10 @@ on_rsc c = ending end.Reset (with_fars no_far (with_locals
 
 -- GRS does so too, but the local maintenance block stays
 abbrev pub on_grs : Circuit → Change
-on_grs c = ending end.Reset (with_fars no_far (with_locals (with_local Hardware (asked_again c.local.hardware) c.local) c))
+on_grs c = ending end.Reset (with_fars no_far (with_locals (with_block Hardware (asked_again c.local.hardware) c.local) c))
 
 -- GRA: a group reset that waits ends, and the status bit becomes the far maintenance block
 abbrev pub on_gra : Bool → Reset → Circuit → Change
 on_gra bit reset.None c = quiet c
 on_gra bit reset.Single c = quiet c
-on_gra bit reset.Group c = quiet (with_reset reset.None (with_fars (with_far Maintenance bit c.far) c))
+on_gra bit reset.Group c = quiet (with_reset reset.None (with_fars (with_block Maintenance bit c.far) c))

@@ -4,5 +4,5 @@
 mod record;
 mod rules;
 
-pub use record::{Call, Cause, Circuit, FarBlocks, LocalBlock, LocalBlocks, Reset};
+pub use record::{Blocks, Call, Cause, Circuit, FarBlocks, LocalBlock, LocalBlocks, Reset};
 pub use rules::{Change, Rule};

@@ -1,12 +1,14 @@
 // What is kept of each circuit.
 ghost use Rattle.std.specs.Prelude.{◌≡◌};
-ghost use Rattle.circuit.specs.Circuits.{is_idle, is_connected, is_none, is_waiting, is_group, local_of, fresh, is_open};
+ghost use Rattle.circuit.specs.Circuits.{is_idle, is_connected, is_none, is_waiting, is_group, block_of, with_block, fresh, is_open};
 
 use message::BlockType;
+use std::fmt;
 
 // The call on a circuit.
-#[derive(Clone, Copy, PartialEq, Eq, Debug)]
+#[derive(Clone, Copy, PartialEq, Eq, Default, Debug)]
 pub enum Call {
+    #[default]
     Idle,
     // seized by us, nothing heard back
     Calling,
@@ -16,8 +18,10 @@ pub enum Call {
 }
 
 // A block that we ask the far exchange to keep.
-#[derive(Clone, Copy, PartialEq, Eq, Debug)]
+// None is one of the states between which the rules move, so it is no Option.
+#[derive(Clone, Copy, PartialEq, Eq, Default, Debug)]
 pub enum LocalBlock {
+    #[default]
     None,
     // sent, not yet acknowledged
     Asked,
@@ -28,35 +32,36 @@ pub enum LocalBlock {
 }
 
 // A reset of ours that waits for its answer.
-#[derive(Clone, Copy, PartialEq, Eq, Debug)]
+// None is one of the states between which the rules move, so it is no Option.
+#[derive(Clone, Copy, PartialEq, Eq, Default, Debug)]
 pub enum Reset {
+    #[default]
     None,
     Single,
     Group,
 }
 
-// Our own blocks.
-#[derive(Clone, Copy, PartialEq, Eq, Debug)]
-pub struct LocalBlocks {
-    pub maintenance: LocalBlock,
-    pub hardware: LocalBlock,
+// What is kept for each type of block.
+#[derive(Clone, Copy, PartialEq, Eq, Default, Debug)]
+pub struct Blocks<T> {
+    pub maintenance: T,
+    pub hardware: T,
 }
+
+// Our own blocks.
+pub type LocalBlocks = Blocks<LocalBlock>;
 
 // The blocks that the far exchange asked for.
-#[derive(Clone, Copy, PartialEq, Eq, Debug)]
-pub struct FarBlocks {
-    pub maintenance: bool,
-    pub hardware: bool,
-}
+pub type FarBlocks = Blocks<bool>;
 
 // The two cause octets of a release.
-#[derive(Clone, Copy, PartialEq, Eq, Debug)]
+#[derive(Clone, Copy, PartialEq, Eq, Default, Debug)]
 pub struct Cause {
     pub location: u8,
     pub value: u8,
 }
 
-#[derive(Clone, Copy, PartialEq, Eq, Debug)]
+#[derive(Clone, Copy, PartialEq, Eq, Default, Debug)]
 pub struct Circuit {
     pub equipped: bool,
     pub call: Call,
@@ -71,20 +76,14 @@ impl Call {
     pub fn is_idle(self) -> bool
         ensures { result ≡ is_idle self }
     {
-        match self {
-            Call::Idle => true,
-            _ => false,
-        }
+        self == Call::Idle
     }
 
     // Whether it is calling or talking.
     pub fn is_connected(self) -> bool
         ensures { result ≡ is_connected self }
     {
-        match self {
-            Call::Calling | Call::Talking => true,
-            _ => false,
-        }
+        matches!(self, Call::Calling | Call::Talking)
     }
 }
 
@@ -92,10 +91,7 @@ impl LocalBlock {
     pub fn is_none(self) -> bool
         ensures { result ≡ is_none self }
     {
-        match self {
-            LocalBlock::None => true,
-            _ => false,
-        }
+        self == LocalBlock::None
     }
 }
 
@@ -103,30 +99,40 @@ impl Reset {
     pub fn is_waiting(self) -> bool
         ensures { result ≡ is_waiting self }
     {
-        match self {
-            Reset::None => false,
-            _ => true,
-        }
+        self != Reset::None
     }
 
     pub fn is_group(self) -> bool
         ensures { result ≡ is_group self }
     {
-        match self {
-            Reset::Group => true,
-            _ => false,
-        }
+        self == Reset::Group
     }
 }
 
-impl LocalBlocks {
-    // The block of a type.
-    pub fn of(self, why: BlockType) -> LocalBlock
-        ensures { result ≡ local_of why self }
+impl<T: Copy> Blocks<T> {
+    // What is kept for one type.
+    pub fn of(self, why: BlockType) -> T
+        ensures { result ≡ block_of why self }
     {
         match why {
             BlockType::Maintenance => self.maintenance,
             BlockType::Hardware => self.hardware,
+        }
+    }
+
+    // The same with another value for one type.
+    pub(crate) fn with(self, why: BlockType, value: T) -> Blocks<T>
+        ensures { result ≡ with_block why value self }
+    {
+        match why {
+            BlockType::Maintenance => Blocks {
+                maintenance: value,
+                ..self
+            },
+            BlockType::Hardware => Blocks {
+                hardware: value,
+                ..self
+            },
         }
     }
 }
@@ -138,20 +144,7 @@ impl Circuit {
     {
         Circuit {
             equipped,
-            call: Call::Idle,
-            local: LocalBlocks {
-                maintenance: LocalBlock::None,
-                hardware: LocalBlock::None,
-            },
-            far: FarBlocks {
-                maintenance: false,
-                hardware: false,
-            },
-            reset: Reset::None,
-            cause: Cause {
-                location: 0,
-                value: 0,
-            },
+            ..Circuit::default()
         }
     }
 
@@ -166,5 +159,37 @@ impl Circuit {
             && self.local.hardware.is_none()
             && !self.far.maintenance
             && !self.far.hardware
+    }
+}
+
+impl fmt::Display for Call {
+    fn fmt<W: fmt::Write>(&self, f: &mut fmt::Formatter<W>) -> fmt::Result {
+        f.write_str(match self {
+            Call::Idle => "idle",
+            Call::Calling => "calling",
+            Call::Talking => "talking",
+            Call::Releasing => "releasing",
+        })
+    }
+}
+
+impl fmt::Display for LocalBlock {
+    fn fmt<W: fmt::Write>(&self, f: &mut fmt::Formatter<W>) -> fmt::Result {
+        f.write_str(match self {
+            LocalBlock::None => "none",
+            LocalBlock::Asked => "asked",
+            LocalBlock::Set => "set",
+            LocalBlock::Lifting => "lifting",
+        })
+    }
+}
+
+impl fmt::Display for Reset {
+    fn fmt<W: fmt::Write>(&self, f: &mut fmt::Formatter<W>) -> fmt::Result {
+        f.write_str(match self {
+            Reset::None => "none",
+            Reset::Single => "single",
+            Reset::Group => "group",
+        })
     }
 }

@@ -1,6 +1,6 @@
 // What the orders of our side do to one circuit.
 ghost use Rattle.std.specs.Prelude.{◌≡◌, true};
-ghost use Rattle.circuit.specs.Changes.{ended_if, with_local};
+ghost use Rattle.circuit.specs.Changes.{quiet, ending, under_block};
 ghost use Rattle.circuit.specs.Laws.{Keeps, allows};
 ghost use Rattle.circuit.specs.Orders.{on_seize, on_release, on_block, on_unblock, on_reset, applied};
 
@@ -17,6 +17,7 @@ pub struct Change {
 }
 
 // What an order does to each circuit that it names.
+// An enum and no closure: the definitions match on this closed list, and each case keeps the laws.
 #[derive(Clone, Copy)]
 pub enum Rule {
     Seize,
@@ -27,29 +28,39 @@ pub enum Rule {
     Reset(Reset),
 }
 
-impl Call {
-    // The end that is told where a call is ended.
-    fn ended(self, cause: EndCause) -> Option<EndCause>
-        ensures { result ≡ ended_if cause self }
+impl Change {
+    // Nothing is told of the call.
+    fn quiet(circuit: Circuit) -> Change
+        ensures { result ≡ quiet circuit }
     {
-        if self.is_idle() { None } else { Some(cause) }
+        Change {
+            circuit,
+            ended: None,
+            begun: None,
+        }
     }
-}
 
-impl LocalBlocks {
-    // The same with another block of one type.
-    fn with(self, why: BlockType, block: LocalBlock) -> LocalBlocks
-        ensures { result ≡ with_local why block self }
+    // The call is ended, and the end is told unless it was idle.
+    fn ending(cause: EndCause, circuit: Circuit) -> Change
+        ensures { result ≡ ending cause circuit }
+    {
+        let engaged = !circuit.call.is_idle();
+        Change {
+            ended: engaged.then_some(cause),
+            ..Change::quiet(Circuit {
+                call: Call::Idle,
+                ..circuit
+            })
+        }
+    }
+
+    // What a block does to the call: one for hardware ends it, one for maintenance lets it go on.
+    fn under_block(why: BlockType, circuit: Circuit) -> Change
+        ensures { result ≡ under_block why circuit }
     {
         match why {
-            BlockType::Maintenance => LocalBlocks {
-                maintenance: block,
-                ..self
-            },
-            BlockType::Hardware => LocalBlocks {
-                hardware: block,
-                ..self
-            },
+            BlockType::Maintenance => Change::quiet(circuit),
+            BlockType::Hardware => Change::ending(EndCause::HardwareBlock, circuit),
         }
     }
 }
@@ -59,50 +70,29 @@ impl Circuit {
         ensures { result ≡ on_seize self }
     {
         Change {
-            circuit: Circuit {
+            begun: Some(Direction::Outgoing),
+            ..Change::quiet(Circuit {
                 call: Call::Calling,
                 ..self
-            },
-            ended: None,
-            begun: Some(Direction::Outgoing),
+            })
         }
     }
 
     fn released(self, cause: Cause) -> Change
         ensures { result ≡ on_release cause self }
     {
-        Change {
-            circuit: Circuit {
-                call: Call::Releasing,
-                cause,
-                ..self
-            },
-            ended: None,
-            begun: None,
-        }
+        Change::quiet(Circuit {
+            call: Call::Releasing,
+            cause,
+            ..self
+        })
     }
 
-    // A hardware block ends the call, a maintenance block lets it go on.
     fn blocked(self, why: BlockType) -> Change
         ensures { result ≡ on_block why self }
     {
         let local = self.local.with(why, LocalBlock::Asked);
-        match why {
-            BlockType::Maintenance => Change {
-                circuit: Circuit { local, ..self },
-                ended: None,
-                begun: None,
-            },
-            BlockType::Hardware => Change {
-                circuit: Circuit {
-                    call: Call::Idle,
-                    local,
-                    ..self
-                },
-                ended: self.call.ended(EndCause::HardwareBlock),
-                begun: None,
-            },
-        }
+        Change::under_block(why, Circuit { local, ..self })
     }
 
     fn unblocked(self, why: BlockType) -> Change
@@ -112,35 +102,21 @@ impl Circuit {
             LocalBlock::None => self.local,
             _ => self.local.with(why, LocalBlock::Lifting),
         };
-        Change {
-            circuit: Circuit { local, ..self },
-            ended: None,
-            begun: None,
-        }
+        Change::quiet(Circuit { local, ..self })
     }
 
     fn cleared(self, reset: Reset) -> Change
         ensures { result ≡ on_reset reset self }
     {
-        let none = LocalBlocks {
-            maintenance: LocalBlock::None,
-            hardware: LocalBlock::None,
-        };
-        let no = FarBlocks {
-            maintenance: false,
-            hardware: false,
-        };
-        Change {
-            circuit: Circuit {
-                call: Call::Idle,
-                local: none,
-                far: no,
+        Change::ending(
+            EndCause::Reset,
+            Circuit {
+                local: LocalBlocks::default(),
+                far: FarBlocks::default(),
                 reset,
                 ..self
             },
-            ended: self.call.ended(EndCause::Reset),
-            begun: None,
-        }
+        )
     }
 }
 
@@ -152,8 +128,7 @@ impl Rule {
         match self {
             Rule::Seize => circuit.is_open(),
             Rule::Release(_) => circuit.call.is_connected(),
-            Rule::Block(_) => !circuit.reset.is_waiting(),
-            Rule::Unblock(_) => !circuit.reset.is_waiting(),
+            Rule::Block(_) | Rule::Unblock(_) => !circuit.reset.is_waiting(),
             Rule::Reset(Reset::Single) => !circuit.reset.is_group(),
             Rule::Reset(_) => true,
         }

@@ -115,24 +115,24 @@ struct Told<'a> {
 
 impl fmt::Display for Told<'_> {
     fn fmt<W: fmt::Write>(&self, f: &mut fmt::Formatter<W>) -> fmt::Result {
-        match Word::from_number(self.number) {
-            Some(Word::Send(place, length)) => {
+        match Word::try_from(self.number) {
+            Ok(Word::Send(place, length)) => {
                 let message = Explanation(read(sent(self.octets, place, length)));
                 write!(f, "send {message}")
             }
-            Some(Word::Begun(direction, Cic(cic))) => {
+            Ok(Word::Begun(direction, Cic(cic))) => {
                 let way = direction_name(direction);
                 write!(f, "begun cic={cic} {way}")
             }
-            Some(Word::Ended(cause, Cic(cic))) => {
+            Ok(Word::Ended(cause, Cic(cic))) => {
                 let by = cause_name(cause);
                 write!(f, "ended cic={cic} by a {by}")
             }
-            Some(Word::Alert(timer, Cic(cic))) => {
-                let number = timer.number();
+            Ok(Word::Alert(timer, Cic(cic))) => {
+                let number = u8::from(timer);
                 write!(f, "alert cic={cic} T{number}")
             }
-            None => write!(f, "no word"),
+            Err(_) => write!(f, "no word"),
         }
     }
 }

@@ -11,6 +11,5 @@ use message::Message;
 pub fn read(octets: &[u8]) -> Result<Message<'_>, Refusal>
     ensures { heard_as result ≡ raised (decode octets.now) }
 {
-    let message = message::read(octets)?;
-    Ok(message)
+    Ok(message::read(octets)?)
 }

@@ -3,6 +3,8 @@ ghost use Rattle.std.specs.Prelude.{◌≡◌};
 ghost use Rattle.refusal.specs.Refusals.{refused_as, number_of, type_in};
 
 use message::MessageFault;
+use std::error::Error;
+use std::fmt;
 
 // The first that holds is answered; nothing is changed then.
 #[derive(Clone, Copy, PartialEq, Eq, Debug)]
@@ -15,7 +17,8 @@ pub enum Refusal {
     Buffers,
     // a message of fewer than three octets
     Short,
-    // a type that is not listed, a layout and a limit that are not kept, each with the type octet
+    // a type that is not listed, a layout and a limit that are not kept, each with the type octet:
+    // a number and no kind, since one that is not listed has no name
     Unknown(u8),
     Layout(u8),
     Limit(u8),
@@ -32,6 +35,7 @@ pub enum Refusal {
 }
 
 impl Refusal {
+    // A match and no discriminants, since three carry an octet.
     pub fn number(self) -> u8
         ensures { result ≡ number_of self }
     {
@@ -56,13 +60,23 @@ impl Refusal {
         ensures { result ≡ type_in self }
     {
         match self {
-            Refusal::Unknown(kind) => Some(kind),
-            Refusal::Layout(kind) => Some(kind),
-            Refusal::Limit(kind) => Some(kind),
+            Refusal::Unknown(kind) | Refusal::Layout(kind) | Refusal::Limit(kind) => Some(kind),
             _ => None,
         }
     }
 }
+
+impl fmt::Display for Refusal {
+    fn fmt<W: fmt::Write>(&self, f: &mut fmt::Formatter<W>) -> fmt::Result {
+        write!(f, "refused {}", self.number())?;
+        match self.type_octet() {
+            Some(kind) => write!(f, " type={kind:02X}"),
+            None => Ok(()),
+        }
+    }
+}
+
+impl Error for Refusal {}
 
 impl From<MessageFault> for Refusal {
     ghost from_gives = { λ f r. r ≡ refused_as f };

@@ -7,7 +7,7 @@ use Rattle.message.specs.declared.kinds.Grouped.{Grouped}
 use Rattle.message.specs.declared.kinds.Grouped.TheVariants.{Cgb, Cgu}
 use Rattle.message.specs.declared.kinds.Single.TheVariants.{Rsc, Blo, Ubl}
 use Rattle.circuit.specs.Changes.{quiet}
-use Rattle.circuit.specs.Circuits.{is_asked, is_group, is_lifting, is_releasing, is_single, local_of}
+use Rattle.circuit.specs.Circuits.{block_of, is_asked, is_group, is_lifting, is_releasing, is_single}
 use Rattle.circuit.specs.Orders.{on_reset}
 use Rattle.told.specs.Words.{timer_of}
 use Rattle.circuit.specs.declared.record.Circuit.{Circuit}
@@ -59,10 +59,10 @@ repeats_reset t system alert table =
     (repeating (group_reset (first_of t system) 30 ∷ []) alert)))
 
 abbrev pub asked_for : BlockType → Circuit → Bool
-asked_for why x = is_asked (local_of why x.local)
+asked_for why x = is_asked (block_of why x.local)
 
 abbrev pub lifting_for : BlockType → Circuit → Bool
-lifting_for why x = is_lifting (local_of why x.local)
+lifting_for why x = is_lifting (block_of why x.local)
 
 -- the alert of the second timer of a pair: for a circuit, and for a PCM system by the CIC of its time slot 1
 abbrev pub alert_at : Timer → ℕ → Option (Timer × Cic)

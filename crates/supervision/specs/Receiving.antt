@@ -9,7 +9,7 @@ use Rattle.message.specs.declared.kinds.CallKind.TheVariants.{Iam, Acm, Con, Anm
 use Rattle.message.specs.declared.kinds.Grouped.TheVariants.{Cgb, Cgu, Cgba, Cgua}
 use Rattle.message.specs.declared.kinds.Single.TheVariants.{Rsc, Blo, Ubl, Bla, Uba}
 use Rattle.circuit.specs.Changes.{quiet}
-use Rattle.circuit.specs.Circuits.{is_connected, is_none, is_single, is_standing, local_of}
+use Rattle.circuit.specs.Circuits.{block_of, is_connected, is_none, is_single, is_standing}
 use Rattle.circuit.specs.Signals.{on_iam, on_progress, on_rel, on_rlc, on_far_block, on_far_unblock, on_block_ack, on_unblock_ack, on_rsc, on_grs, on_gra}
 use Rattle.circuit.specs.declared.record.Circuit.{Circuit}
 use Rattle.circuit.specs.declared.rules.Change.{Change}
@@ -96,11 +96,11 @@ heard t (grouped c Cgb i r s) table = to_range t c r s (moving (marked t c r s) 
 heard t (grouped c Cgu i r s) table = to_range t c r s (moving (marked t c r s) (λ _. on_far_unblock (why_of i)) (grouped c Cgua i r s ∷ [])) table
 heard t (grouped c Cgba i r s) table =
     to_range t c r s
-    (moving (marked t c r s) (λ _. on_block_ack (why_of i)) (groups t Cgu (why_of i) (λ k x. marked t c r s k && is_none (local_of (why_of i) x.local)) table))
+    (moving (marked t c r s) (λ _. on_block_ack (why_of i)) (groups t Cgu (why_of i) (λ k x. marked t c r s k && is_none (block_of (why_of i) x.local)) table))
     table
 heard t (grouped c Cgua i r s) table =
     to_range t c r s
-    (moving (marked t c r s) (λ _. on_unblock_ack (why_of i)) (groups t Cgb (why_of i) (λ k x. marked t c r s k && is_standing (local_of (why_of i) x.local)) table))
+    (moving (marked t c r s) (λ _. on_unblock_ack (why_of i)) (groups t Cgb (why_of i) (λ k x. marked t c r s k && is_standing (block_of (why_of i) x.local)) table))
     table
 heard t (group_reset c r) table =
     to_range t c r []

@@ -42,11 +42,11 @@ fn tell(cic: Cic, change: Change, words: &mut [u32], count: usize) -> usize
 {
     let mut next = count;
     if let Some(cause) = change.ended {
-        words[next] = Word::Ended(cause, cic).number();
+        words[next] = u32::from(Word::Ended(cause, cic));
         next += 1;
     }
     if let Some(way) = change.begun {
-        words[next] = Word::Begun(way, cic).number();
+        words[next] = u32::from(Word::Begun(way, cic));
         next += 1;
     }
     next
@@ -96,7 +96,7 @@ pub(crate) fn send(
         Ok(length) => length,
         Err(_) => unreachable(),
     };
-    words[count] = Word::Send(at as u16, length as u16).number();
+    words[count] = u32::from(Word::Send(at as u16, length as u16));
     (count + 1, at + length)
 }
 

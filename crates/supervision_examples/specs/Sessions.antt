@@ -1,8 +1,8 @@
 -- Worked sessions: a trunk of one PCM system from CIC 0 on, all time slots but 0 equipped, and we have the higher point code.
 use Rattle.std.specs.Prelude.{◌≡◌, ℕ, true, List, [], ◌∷◌, map, replicate, Ok, Err, Result, slice_set}
 use Rattle.message.specs.declared.kinds.BlockType.TheVariants.{Maintenance}
-use Rattle.circuit.specs.Changes.{with_call, with_local, with_locals}
-use Rattle.circuit.specs.Circuits.{fresh}
+use Rattle.circuit.specs.Changes.{with_call, with_locals}
+use Rattle.circuit.specs.Circuits.{fresh, with_block}
 use Rattle.told.specs.Words.{number_of}
 use Rattle.circuit.specs.declared.record.Call.TheVariants.{Calling}
 use Rattle.circuit.specs.declared.record.Circuit.{Circuit}
@@ -46,7 +46,7 @@ calling k = with_table (slice_set table k (with_call Calling (fresh true)))
 
 -- but for the local maintenance block of one circuit
 abbrev pub blocked : ℕ → LocalBlock → Lent
-blocked k b = with_table (slice_set table k (with_locals (with_local Maintenance b (fresh true).local) (fresh true)))
+blocked k b = with_table (slice_set table k (with_locals (with_block Maintenance b (fresh true).local) (fresh true)))
 
 -- what is lent after an answer
 abbrev pub left : Result Move Refusal → Lent → Lent

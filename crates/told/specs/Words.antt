@@ -1,5 +1,5 @@
 -- The words told: 32 bits, the top four the kind, unnamed bits 0.
-use Rattle.std.specs.Prelude.{ℕ, ◌+◌, ◌*◌, ◌/◌, ◌%◌, ◌<◌, cond, Some, None, Option, ◌==◌}
+use Rattle.std.specs.Prelude.{ℕ, ◌+◌, ◌*◌, ◌/◌, ◌%◌, ◌<◌, cond, Some, None, Option, option_map, ◌==◌}
 use Rattle.status.specs.declared.circuit.Cic.{Cic}
 use Rattle.told.specs.declared.kinds.Direction.{Direction}
 use Rattle.told.specs.declared.kinds.Direction.TheVariants.{Outgoing, Incoming}
@@ -74,21 +74,13 @@ number_of (Alert timer cic) = 0x4000_0000 + timer_number timer * 4096 + cic.0 % 
 abbrev pub begun_of : ℕ → Cic → Option Word
 begun_of n cic = cond (n == 0) (Some (Begun Outgoing cic)) (cond (n == 1) (Some (Begun Incoming cic)) None)
 
-abbrev pub ended_by : Option EndCause → Cic → Option Word
-ended_by None cic = None
-ended_by (Some cause) cic = Some (Ended cause cic)
-
-abbrev pub alert_by : Option Timer → Cic → Option Word
-alert_by None cic = None
-alert_by (Some timer) cic = Some (Alert timer cic)
-
 -- by the kind, the bits over the CIC, and the CIC
 abbrev pub word_by : ℕ → ℕ → Cic → ℕ → Option Word
 word_by kind field cic n =
     cond (kind == 1) (Some (Send (n / 65536 % 4096) (n % 65536)))
     (cond (kind == 2) (begun_of field cic)
-    (cond (kind == 3) (ended_by (cause_of field) cic)
-    (cond (kind == 4) (alert_by (timer_of field) cic) None)))
+    (cond (kind == 3) (option_map (λ cause. Ended cause cic) (cause_of field))
+    (cond (kind == 4) (option_map (λ timer. Alert timer cic) (timer_of field)) None)))
 
 -- the word that a number says
 abbrev pub word_of : ℕ → Option Word

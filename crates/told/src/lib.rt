@@ -2,5 +2,7 @@
 #![tactic(auto)]
 
 mod kinds;
+mod numbers;
 
 pub use kinds::{Direction, EndCause, Timer, Word};
+pub use numbers::UnknownNumber;
