@@ -5,8 +5,7 @@ use Rattle.policy.proofs.links.Links.append.Goals as goal
 pub returns : goal.returns
 returns c =
     let f = field_at (λ (l : Link). l.older) c.args.self.now.links c.args.end blank in
-    let a = c.set_newer.ensures in
-    let b = c.set_older.ensures in
-    let d = c.set_newer-2.ensures in
-    let e = c.set_older-2.ensures in
+    let r = c.at-last.ensures in
+    let a = c.join.ensures in
+    let b = c.join-2.ensures in
     record { newer = cc; older = cc; marks = cc }
