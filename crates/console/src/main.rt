@@ -66,6 +66,7 @@ fn run(rt: &HostRuntime) -> io::Result<()> {
     let mut out = BufWriter::new(rt.alloc(), rt.stdout())?;
     let mut line = Vec::new(rt.alloc());
     let mut desk = Desk::new(rt.alloc());
+    // A count, since each loop is proved to end. `split` would not tell whether the last line had its line feed.
     for _ in 0..u64::MAX {
         line.clear();
         if input.read_until(b'\n', &mut line)? == 0 {
@@ -77,8 +78,5 @@ fn run(rt: &HostRuntime) -> io::Result<()> {
 }
 
 fn main(rt: HostRuntime) -> anyhow::Result<()> {
-    match run(&rt) {
-        Ok(()) => Ok(()),
-        Err(e) => Err(e.into()),
-    }
+    Ok(run(&rt)?)
 }
