@@ -4,6 +4,7 @@
 mod desk;
 mod numerals;
 mod order;
+mod selection;
 mod wording;
 
 ghost use Rattle.std.specs.Prelude.{◌≡◌, ℕ, ◌<◌, length, MatchBool, ◌==◌, ◌≢◌, slice_index};
