@@ -35,7 +35,13 @@ pub struct Desk {
 fn open_trunk(opening: &Opening, table: &mut [Circuit]) -> Result<OpenTrunk, Refusal> {
     let equipment = opening.equipment.as_slice();
     let mut selection = Selection::new(opening.method, opening.higher);
-    let trunk = Trunk::open(opening.first, equipment, opening.higher, table, &mut selection)?;
+    let trunk = Trunk::open(
+        opening.first,
+        equipment,
+        opening.higher,
+        table,
+        &mut selection,
+    )?;
     Ok(OpenTrunk { trunk, selection })
 }
 

@@ -21,19 +21,14 @@ use wording::{Answer, Report};
 fn is_blank(text: &[u8]) -> bool
     ensures { MatchBool result ((k : ℕ) → k < length text.now → slice_index text.now k ≡ 32) ((k : ℕ) × (k < length text.now) × (slice_index text.now k ≢ 32)) }
 {
-    for byte in text {
-        if *byte != b' ' {
-            return false;
-        }
-    }
-    true
+    text.iter().all(|byte| *byte == b' ')
 }
 
 // Whether a line is a comment.
 fn is_remark(text: &[u8]) -> bool
     ensures { result ≡ (slice_index text.now 0 == 35) }
 {
-    text.len() > 0 && text[0] == b'#'
+    text.first() == Some(&b'#')
 }
 
 // Writes a line again, and what it is answered.
