@@ -7,12 +7,9 @@ use Rattle.std.proofs.lemmas.Bool.Decides.{nat_tests}
 use Rattle.std.specs.Str.Parse.{AllDigits, IsNumeral, digits_value}
 use Rattle.std.specs.Char.{digit_value}
 
--- only bytes of ASCII are digits, and none below 48
+-- only bytes of ASCII are digits
 ascii_digit : (c : ℕ) → digit_value c < 36 → c < 128
 ascii_digit c d = grind (arith, nat_tests)
-
-low_digit : (c : ℕ) → digit_value c < 36 → 48 ≤ c
-low_digit c d = grind (arith, nat_tests)
 
 ascii_digits : (radix : ℕ) → radix ≤ 36 → (ds : List ℕ) → AllDigits radix ds → IsAscii ds
 ascii_digits radix h [] d i = omega arith
@@ -22,11 +19,6 @@ ascii_digits radix h (c ∷ cs) d (suc i) = ascii_digits radix h cs d.1 i
 -- so digits are text
 pub digits_are_text : (radix : ℕ) → radix ≤ 36 → (ds : List ℕ) → AllDigits radix ds → IsUtf8 ds
 digits_are_text radix h ds d = IsUtf8-from_ascii ds (ascii_digits radix h ds d)
-
--- and do not begin with a plus
-pub no_plus : (radix : ℕ) → radix ≤ 36 → (ds : List ℕ) → get_or ds 0 0 ≡ 43 → IsNumeral radix ds → ⊥
-no_plus radix h [] e n = omega (arith, n.0)
-no_plus radix h (c ∷ cs) e n = let k : digit_value c < 36 = omega (arith, n.1.0) in omega (arith, low_digit c k)
 
 -- n hexadecimal digits write a number below 16 ^ n
 pub hex_below : (n : ℕ) (ds : List ℕ) → AllDigits 16 ds → length ds ≤ n → digits_value 16 ds < 16 ^ n

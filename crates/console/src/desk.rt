@@ -2,10 +2,10 @@
 ghost use Rattle.std.specs.Prelude.{IfOk};
 ghost use Rattle.console.specs.Desks.{Stays};
 
-use crate::order::{Method, Opening, Operation, Order};
+use crate::order::{Opening, Operation, Order, Slots};
+use crate::selection::Selection;
 use crate::wording::Answer;
 use circuit::Circuit;
-use policy::{Policy, ReleaseOrder, Sequential};
 use refusal::Refusal;
 use status::Cic;
 use std::alloc::{AllocError, Global};
@@ -13,13 +13,6 @@ use supervision::Trunk;
 
 // A trunk has no more PCM systems. Of more the table has no records, and the trunk refuses them.
 const MOST_SYSTEMS: usize = 16;
-
-// A policy of either method.
-#[derive(Clone, Copy)]
-enum Selection {
-    OneEnd(Sequential),
-    ReleaseOrder(ReleaseOrder),
-}
 
 // An open trunk with its policy.
 #[derive(Clone, Copy)]
@@ -40,67 +33,20 @@ pub struct Desk {
 
 // Opens a trunk over a new policy of its method.
 fn open_trunk(opening: &Opening, table: &mut [Circuit]) -> Result<OpenTrunk, Refusal> {
-    let first = opening.first;
-    let higher = opening.higher;
     let equipment = opening.equipment.as_slice();
-    match opening.method {
-        Method::OneEnd(end) => {
-            let mut policy = Sequential::new(end);
-            let trunk = Trunk::open(first, equipment, higher, table, &mut policy)?;
-            let selection = Selection::OneEnd(policy);
-            Ok(OpenTrunk { trunk, selection })
-        }
-        Method::ReleaseOrder => {
-            // with the higher point code the even places are controlled
-            let mut policy = ReleaseOrder::new(higher);
-            let trunk = Trunk::open(first, equipment, higher, table, &mut policy)?;
-            let selection = Selection::ReleaseOrder(policy);
-            Ok(OpenTrunk { trunk, selection })
-        }
-    }
-}
-
-// Does an operation over any policy; how many words and octets it wrote.
-fn carry_out<P: Policy>(
-    operation: &Operation,
-    trunk: Trunk,
-    table: &mut [Circuit],
-    policy: &mut P,
-    words: &mut [u32],
-    octets: &mut [u8],
-) -> Result<(usize, usize), Refusal> {
-    match operation {
-        Operation::Seize(body) => trunk.seize(body.as_slice(), table, policy, words, octets),
-        Operation::Release(cic, location, value) => {
-            trunk.release(*cic, *location, *value, table, policy, words, octets)
-        }
-        Operation::Block(cic) => trunk.block(*cic, table, policy, words, octets),
-        Operation::Unblock(cic) => trunk.unblock(*cic, table, policy, words, octets),
-        Operation::Reset(cic) => trunk.reset(*cic, table, policy, words, octets),
-        Operation::GroupBlock(slots) => trunk.group_block(
-            slots.kind,
-            slots.system,
-            slots.mask,
-            table,
-            policy,
-            words,
-            octets,
-        ),
-        Operation::GroupUnblock(slots) => trunk.group_unblock(
-            slots.kind,
-            slots.system,
-            slots.mask,
-            table,
-            policy,
-            words,
-            octets,
-        ),
-        Operation::GroupReset(system) => trunk.group_reset(*system, table, policy, words, octets),
-    }
+    let mut selection = Selection::new(opening.method, opening.higher);
+    let trunk = Trunk::open(
+        opening.first,
+        equipment,
+        opening.higher,
+        table,
+        &mut selection,
+    )?;
+    Ok(OpenTrunk { trunk, selection })
 }
 
 impl OpenTrunk {
-    // Does an operation over the trunk's policy.
+    // Does an operation; how many words and octets it wrote.
     fn operate(
         &mut self,
         operation: &Operation,
@@ -108,16 +54,24 @@ impl OpenTrunk {
         words: &mut [u32],
         octets: &mut [u8],
     ) -> Result<(usize, usize), Refusal> {
-        match self.selection {
-            Selection::OneEnd(mut policy) => {
-                let done = carry_out(operation, self.trunk, table, &mut policy, words, octets);
-                self.selection = Selection::OneEnd(policy);
-                done
+        let trunk = self.trunk;
+        let policy = &mut self.selection;
+        match operation {
+            Operation::Seize(body) => trunk.seize(body.as_slice(), table, policy, words, octets),
+            Operation::Release(cic, location, value) => {
+                trunk.release(*cic, *location, *value, table, policy, words, octets)
             }
-            Selection::ReleaseOrder(mut policy) => {
-                let done = carry_out(operation, self.trunk, table, &mut policy, words, octets);
-                self.selection = Selection::ReleaseOrder(policy);
-                done
+            Operation::Block(cic) => trunk.block(*cic, table, policy, words, octets),
+            Operation::Unblock(cic) => trunk.unblock(*cic, table, policy, words, octets),
+            Operation::Reset(cic) => trunk.reset(*cic, table, policy, words, octets),
+            Operation::GroupBlock(Slots { kind, system, mask }) => {
+                trunk.group_block(*kind, *system, *mask, table, policy, words, octets)
+            }
+            Operation::GroupUnblock(Slots { kind, system, mask }) => {
+                trunk.group_unblock(*kind, *system, *mask, table, policy, words, octets)
+            }
+            Operation::GroupReset(system) => {
+                trunk.group_reset(*system, table, policy, words, octets)
             }
         }
     }
@@ -161,9 +115,13 @@ impl Desk {
         let Some(open) = self.open else {
             return Answer::NotUnderstood;
         };
-        match open.trunk.place(cic) {
-            Some(place) if place.0 < self.table.len() => Answer::Shown(cic, self.table[place.0]),
-            _ => Answer::Refused(Refusal::Address),
+        let circuit = open
+            .trunk
+            .place(cic)
+            .and_then(|place| self.table.get(place.0));
+        match circuit {
+            Some(circuit) => Answer::Shown(cic, *circuit),
+            None => Answer::Refused(Refusal::Address),
         }
     }
 

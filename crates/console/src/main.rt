@@ -4,6 +4,7 @@
 mod desk;
 mod numerals;
 mod order;
+mod selection;
 mod wording;
 
 ghost use Rattle.std.specs.Prelude.{◌≡◌, ℕ, ◌<◌, length, MatchBool, ◌==◌, ◌≢◌, slice_index};
@@ -20,19 +21,14 @@ use wording::{Answer, Report};
 fn is_blank(text: &[u8]) -> bool
     ensures { MatchBool result ((k : ℕ) → k < length text.now → slice_index text.now k ≡ 32) ((k : ℕ) × (k < length text.now) × (slice_index text.now k ≢ 32)) }
 {
-    for byte in text {
-        if *byte != b' ' {
-            return false;
-        }
-    }
-    true
+    text.iter().all(|byte| *byte == b' ')
 }
 
 // Whether a line is a comment.
 fn is_remark(text: &[u8]) -> bool
     ensures { result ≡ (slice_index text.now 0 == 35) }
 {
-    text.len() > 0 && text[0] == b'#'
+    text.first() == Some(&b'#')
 }
 
 // Writes a line again, and what it is answered.
@@ -66,6 +62,7 @@ fn run(rt: &HostRuntime) -> io::Result<()> {
     let mut out = BufWriter::new(rt.alloc(), rt.stdout())?;
     let mut line = Vec::new(rt.alloc());
     let mut desk = Desk::new(rt.alloc());
+    // A count, since each loop is proved to end. `split` would not tell whether the last line had its line feed.
     for _ in 0..u64::MAX {
         line.clear();
         if input.read_until(b'\n', &mut line)? == 0 {
@@ -77,8 +74,5 @@ fn run(rt: &HostRuntime) -> io::Result<()> {
 }
 
 fn main(rt: HostRuntime) -> anyhow::Result<()> {
-    match run(&rt) {
-        Ok(()) => Ok(()),
-        Err(e) => Err(e.into()),
-    }
+    Ok(run(&rt)?)
 }

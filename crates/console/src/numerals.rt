@@ -11,13 +11,13 @@ fn number(word: &[u8], radix: u32) -> Option<u64>
     requires high { radix ≤ 36 }
     ensures { SomeIff result (IsNumeral radix word.now × (digits_value radix word.now < 2 ^ 64)) (digits_value radix word.now) }
 {
-    if word.len() > 0 && word[0] == b'+' {
+    if word.starts_with(b"+") {
         return None;
     }
-    match std::str::from_utf8(word) {
-        Ok(text) => u64::from_str_radix(text, radix).ok(),
-        Err(_) => None,
-    }
+    let Ok(text) = std::str::from_utf8(word) else {
+        return None;
+    };
+    u64::from_str_radix(text, radix).ok()
 }
 
 // A decimal number below 2^64.

@@ -60,20 +60,27 @@ pub enum Order {
 
 // The words of a line: what stands between spaces.
 fn words_of(heap: Global, line: &[u8]) -> Result<Vec<&[u8]>, AllocError> {
-    let mut words = Vec::new(heap);
-    let mut start = 0;
-    for (at, byte) in line.iter().enumerate() {
-        if *byte == b' ' {
-            if start < at {
-                words.push(&line[start..at])?;
-            }
-            start = at + 1;
-        }
+    line.split(|byte| *byte == b' ')
+        .filter(|word| !word.is_empty())
+        .collect(heap)
+}
+
+// What each word says, or `None` where one says nothing.
+fn read_all<T: Drop, F: Fn(&[u8]) -> Option<T>>(
+    heap: Global,
+    words: &[&[u8]],
+    read: F,
+) -> Result<Option<Vec<T>>, AllocError>
+    requires { F.IsAlwaysCallable read }
+{
+    let mut all = Vec::new(heap);
+    for word in words {
+        let Some(said) = read(word) else {
+            return Ok(None);
+        };
+        all.push(said)?;
     }
-    if start < line.len() {
-        words.push(&line[start..])?;
-    }
-    Ok(words)
+    Ok(Some(all))
 }
 
 // The order of a line, or `None` where there is no such order.
@@ -85,10 +92,7 @@ pub(crate) fn read_order(heap: Global, line: &[u8]) -> Result<Option<Order>, All
         }
         [b"seize", body @ ..] => read_seizure(heap, body),
         [b"show", cic] => Ok(read_show(cic)),
-        others => match read_operation(others) {
-            Some(operation) => Ok(Some(Order::Operate(operation))),
-            None => Ok(None),
-        },
+        others => Ok(read_operation(others).map(Order::Operate)),
     }
 }
 
@@ -113,14 +117,7 @@ fn read_opening(
     if words.len() > MOST_WORDS {
         return Ok(None);
     }
-    let mut equipment = Vec::new(heap);
-    for word in words {
-        let Some(slots) = hex_word(word) else {
-            return Ok(None);
-        };
-        equipment.push(slots)?;
-    }
-    Ok(Some(Order::Open(Opening {
+    Ok(read_all(heap, words, hex_word)?.map(|equipment| Order::Open(Opening {
         first,
         higher,
         method,
@@ -146,14 +143,8 @@ fn read_method(method: &[u8]) -> Option<Method> {
 }
 
 fn read_seizure(heap: Global, words: &[&[u8]]) -> Result<Option<Order>, AllocError> {
-    let mut body = Vec::new(heap);
-    for word in words {
-        let Some(octet) = hex_octet(word) else {
-            return Ok(None);
-        };
-        body.push(octet)?;
-    }
-    Ok(Some(Order::Operate(Operation::Seize(body))))
+    let body = read_all(heap, words, hex_octet)?;
+    Ok(body.map(|body| Order::Operate(Operation::Seize(body))))
 }
 
 // The operations that hold no list.

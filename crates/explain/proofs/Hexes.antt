@@ -1,37 +1,20 @@
 -- The octets of a line, one after another.
-use Rattle.std.proofs.Common.{◌≡◌, ℕ, ◌<◌, true, false, eqb, List, [], ◌∷◌, ◌++◌, length, get_or, drop, Some, None, Option, sym, refl, ap, ◌∙◌, append_assoc, arith}
+use Rattle.std.proofs.Common.{◌≡◌, ℕ, ◌<◌, false, eqb, List, [], ◌∷◌, ◌++◌, length, get_or, drop, Some, None, Option, sym, refl, ap, ◌∙◌, append_assoc, arith}
 use Rattle.std.proofs.lemmas.Bool.Decides.{nat_tests}
 use Rattle.explain.specs.Hex.{hex_octets, octet_front, before, onto}
-
--- nothing is put in front of what is still to come
-pub onto_none : (o : Option (List ℕ)) → onto [] o ≡ o
-onto_none None = refl
-onto_none (Some xs) = refl
 
 onto_more : (ys : List ℕ) (x : ℕ) (o : Option (List ℕ)) → onto ys (before (Some x) o) ≡ onto (ys ++ x ∷ []) o
 onto_more ys x None = refl
 onto_more ys x (Some xs) = rw append_assoc
 
-is_space : (a : ℕ) → a ≡ 32 → eqb a 32 ≡ true
-is_space a e = grind (arith, nat_tests)
-
 no_space : (a : ℕ) → (a ≡ 32 → ⊥) → eqb a 32 ≡ false
 no_space a n = grind (arith, nat_tests)
-
--- a space is passed over
-pub past_space : (xs : List ℕ) → 0 < length xs → get_or xs 0 0 ≡ 32 → hex_octets xs ≡ hex_octets (drop 1 xs)
-past_space [] h e = absurd (omega arith)
-past_space (a ∷ []) h e = rw (is_space a e)
-past_space (a ∷ b ∷ xs) h e = rw (is_space a e)
 
 -- a line goes on with an octet, or has something else
 at_octet : (xs : List ℕ) → 0 < length xs → (get_or xs 0 0 ≡ 32 → ⊥) → hex_octets xs ≡ before (octet_front xs) (hex_octets (drop 2 xs))
 at_octet [] h n = absurd (omega arith)
 at_octet (a ∷ []) h n = rw (no_space a n)
 at_octet (a ∷ b ∷ xs) h n = rw (no_space a n)
-
-pub past_other : (xs : List ℕ) → 0 < length xs → (get_or xs 0 0 ≡ 32 → ⊥) → octet_front xs ≡ None → hex_octets xs ≡ None
-past_other xs h n e = at_octet xs h n ∙ rw e
 
 pub past_octet : (xs ys : List ℕ) (x : ℕ) → 0 < length xs → (get_or xs 0 0 ≡ 32 → ⊥) → octet_front xs ≡ Some x →
     onto (ys ++ x ∷ []) (hex_octets (drop 2 xs)) ≡ onto ys (hex_octets xs)

@@ -1,6 +1,6 @@
 // Octets written as hexadecimal digits.
 ghost use Rattle.std.specs.Prelude.{◌≡◌, IfOk};
-ghost use Rattle.explain.specs.Hex.{digit_of, octet_front, hex_octets, listed, without_end, without_last};
+ghost use Rattle.explain.specs.Hex.{digit_of, octet_front, hex_octets, listed, without_end};
 
 use std::alloc::{AllocError, Global};
 
@@ -8,23 +8,15 @@ use std::alloc::{AllocError, Global};
 fn digit(byte: u8) -> Option<u8>
     ensures { result ≡ digit_of byte }
 {
-    match byte {
-        b'0'..=b'9' => Some(byte - b'0'),
-        b'A'..=b'F' => Some(byte - b'A' + 10),
-        b'a'..=b'f' => Some(byte - b'a' + 10),
-        _ => None,
-    }
+    char::from(byte).to_digit(16).map(|value| value as u8)
 }
 
 // The octet at the front of a text: two digits, and then a space or the end.
 fn octet_front(text: &[u8]) -> Option<u8>
     ensures { result ≡ octet_front text.now }
 {
-    if text.len() < 2 || text.len() > 2 && text[2] != b' ' {
-        return None;
-    }
-    match (digit(text[0]), digit(text[1])) {
-        (Some(high), Some(low)) => Some(high * 16 + low),
+    match text {
+        [high, low] | [high, low, b' ', ..] => Some(digit(*high)? * 16 + digit(*low)?),
         _ => None,
     }
 }
@@ -35,9 +27,8 @@ pub fn hex_octets(heap: Global, line: &[u8]) -> Result<Option<Vec<u8>>, AllocErr
 {
     let mut octets = Vec::new(heap);
     let mut rest = line;
-    while rest.len() > 0 {
-        if rest[0] == b' ' {
-            let (_, after) = rest.split_at(1);
+    while let [first, after @ ..] = rest {
+        if *first == b' ' {
             rest = after;
         } else {
             let Some(octet) = octet_front(rest) else {
@@ -55,23 +46,8 @@ pub fn hex_octets(heap: Global, line: &[u8]) -> Result<Option<Vec<u8>>, AllocErr
 pub fn without_end(line: &[u8]) -> &[u8]
     ensures { result.now ≡ without_end line.now }
 {
-    let text = without_last(line, b'\n');
-    if text.len() < line.len() {
-        without_last(text, b'\r')
-    } else {
-        text
-    }
-}
-
-// A text without a byte at its end.
-fn without_last(text: &[u8], byte: u8) -> &[u8]
-    ensures { result.now ≡ without_last byte text.now }
-{
-    let n = text.len();
-    if n > 0 && text[n - 1] == byte {
-        let (front, _) = text.split_at(n - 1);
-        front
-    } else {
-        text
+    match line.strip_suffix(b"\n") {
+        Some(text) => text.strip_suffix(b"\r").unwrap_or(text),
+        None => line,
     }
 }

@@ -11,15 +11,10 @@ pub trait Policy {
     // The most places that it takes.
     const PLACES: usize;
 
-    // That number, for clauses, which cannot name the constant.
-    ghost room: { ℕ };
+    ghost PLACES: { ℕ };
 
     // The set: a mark for each place below that number.
     ghost held: { Self → List Bool };
-
-    // The constant, for generic code.
-    fn most() -> usize
-        ensures { result ≡ room };
 
     // Adds a place. One past the last changes nothing.
     fn offer(&mut self, place: Place)
@@ -34,7 +29,7 @@ pub trait Policy {
         ensures same { held self.new ≡ held self.old }
         ensures member { Chosen (held self.old) result };
 
-    ghost sized: { (x : Self) → length (held x) ≡ room };
+    ghost sized: { (x : Self) → length (held x) ≡ PLACES };
 }
 
 // A word to a policy.
@@ -47,7 +42,7 @@ pub enum Word {
 // Tells a policy each word in turn. Of each place the last word decides.
 pub fn follow<P: Policy>(policy: &mut P, words: &[Word])
     ensures all { P.Policy.held policy.new ≡ after words.now (P.Policy.held policy.old) }
-    ensures last { (k : ℕ) → k < P.Policy.room → slice_index_or (P.Policy.held policy.new) k false ≡ last_word words.now k (slice_index_or (P.Policy.held policy.old) k false) }
+    ensures last { (k : ℕ) → k < P.Policy.PLACES → slice_index_or (P.Policy.held policy.new) k false ≡ last_word words.now k (slice_index_or (P.Policy.held policy.old) k false) }
 {
     for word in words {
         match *word {

@@ -1,5 +1,6 @@
 // Places linked in release order: in, out, and the next to choose.
 ghost use Rattle.std.specs.Prelude.{◌≡◌, ℕ, ◌<◌, Bool, true, false, List, [], replicate, slice_index, slice_index_or, slice_set};
+ghost use Rattle.policy.specs.Fields.{blank};
 ghost use Rattle.policy.specs.Orders.{Ordered, newers, olders, marks, end_for, offered, withdrawn, preferred};
 
 use crate::interface::Place;
@@ -16,34 +17,19 @@ impl Links {
         ensures none { marks result.links ≡ replicate 512 false }
         ensures order { (e : Bool) → Ordered e result.links [] }
     {
-        let free = Link {
-            linked: false,
-            older: 0,
-            newer: 0,
+        let mut links = Links {
+            links: [Link::FREE; 514],
         };
-        let mut links = [free; 514];
-        links[CONTROLLED] = Link {
-            linked: false,
-            older: CONTROLLED,
-            newer: CONTROLLED,
-        };
-        links[UNCONTROLLED] = Link {
-            linked: false,
-            older: UNCONTROLLED,
-            newer: UNCONTROLLED,
-        };
-        Links { links }
+        links.join(CONTROLLED, CONTROLLED);
+        links.join(UNCONTROLLED, UNCONTROLLED);
+        links
     }
 
     // Whether a place is linked in.
     fn is_linked(&self, at: usize) -> bool
         ensures { result ≡ slice_index_or (marks self.now.links) at false }
     {
-        if at < 512 {
-            self.links[at].linked
-        } else {
-            false
-        }
+        at < 512 && self.links[at].linked
     }
 
     // The end of the line of a place.
@@ -64,7 +50,7 @@ impl Links {
     {
         if at < 512 {
             let linked = self.is_linked(at);
-            self.set_linked(at, true);
+            self.mark(at, true);
             if !linked {
                 self.append(Self::end_for(even, at), at);
             }
@@ -76,10 +62,8 @@ impl Links {
         ensures set { marks self.new.links ≡ slice_set (marks self.old.links) at false }
         ensures order { (e : Bool) (zs : List ℕ) → Ordered e self.old.links zs → Ordered e self.new.links (withdrawn at zs) }
     {
-        if at < 512 {
-            if self.is_linked(at) {
-                self.remove(at);
-            }
+        if self.is_linked(at) {
+            self.remove(at);
         }
     }
 
@@ -87,78 +71,89 @@ impl Links {
     pub(crate) fn choose(&self) -> Option<Place>
         ensures { (e : Bool) (zs : List ℕ) → Ordered e self.now.links zs → result ≡ preferred e zs }
     {
-        let first = self.links[CONTROLLED].newer;
+        let first = self.at(CONTROLLED).newer;
+        let last = self.at(UNCONTROLLED).older;
         if first < 512 {
-            return Some(Place(first));
-        }
-        let last = self.links[UNCONTROLLED].older;
-        if last < 512 {
-            return Some(Place(last));
-        }
-        None
-    }
-
-    // Writes what follows `at`.
-    fn set_newer(&mut self, at: usize, newer: usize)
-        ensures newer { newers self.new.links ≡ slice_set (newers self.old.links) at newer }
-        ensures older { olders self.new.links ≡ olders self.old.links }
-        ensures marks { marks self.new.links ≡ marks self.old.links }
-    {
-        if at < 514 {
-            let old = self.links[at];
-            self.links[at] = Link { newer, ..old };
+            Some(Place(first))
+        } else if last < 512 {
+            Some(Place(last))
+        } else {
+            None
         }
     }
 
-    // Writes what precedes `at`.
-    fn set_older(&mut self, at: usize, older: usize)
-        ensures newer { newers self.new.links ≡ newers self.old.links }
-        ensures older { olders self.new.links ≡ slice_set (olders self.old.links) at older }
+    // The link at `at`; one past the last is free.
+    fn at(&self, at: usize) -> Link
+        ensures { result ≡ slice_index_or self.now.links at blank }
+    {
+        self.links.get(at).copied().unwrap_or(Link::FREE)
+    }
+
+    // Writes the link at `at`. One past the last is not written.
+    fn write(&mut self, at: usize, link: Link)
+        ensures { self.new.links ≡ slice_set self.old.links at link }
+    {
+        if at < self.links.len() {
+            self.links[at] = link;
+        }
+    }
+
+    // Makes two links neighbours.
+    fn join(&mut self, older: usize, newer: usize)
+        ensures newer { newers self.new.links ≡ slice_set (newers self.old.links) older newer }
+        ensures older { olders self.new.links ≡ slice_set (olders self.old.links) newer older }
         ensures marks { marks self.new.links ≡ marks self.old.links }
     {
-        if at < 514 {
-            let old = self.links[at];
-            self.links[at] = Link { older, ..old };
-        }
+        self.write(
+            older,
+            Link {
+                newer,
+                ..self.at(older)
+            },
+        );
+        self.write(
+            newer,
+            Link {
+                older,
+                ..self.at(newer)
+            },
+        );
     }
 
     // Marks a place as linked or not.
-    fn set_linked(&mut self, at: usize, linked: bool)
-        requires { at < 512 }
+    fn mark(&mut self, at: usize, linked: bool)
         ensures newer { newers self.new.links ≡ newers self.old.links }
         ensures older { olders self.new.links ≡ olders self.old.links }
         ensures marks { marks self.new.links ≡ slice_set (marks self.old.links) at linked }
     {
-        let old = self.links[at];
-        self.links[at] = Link { linked, ..old };
+        self.write(
+            at,
+            Link {
+                linked,
+                ..self.at(at)
+            },
+        );
     }
 
     // Puts a place in as the newest of the line that ends at `end`.
     fn append(&mut self, end: usize, at: usize)
-        requires at { at < 512 }
-        requires end { end < 514 }
         ensures newer { newers self.new.links ≡ slice_set (slice_set (newers self.old.links) (slice_index (olders self.old.links) end) at) at end }
-        ensures older { olders self.new.links ≡ slice_set (slice_set (olders self.old.links) end at) at (slice_index (olders self.old.links) end) }
+        ensures older { olders self.new.links ≡ slice_set (slice_set (olders self.old.links) at (slice_index (olders self.old.links) end)) end at }
         ensures marks { marks self.new.links ≡ marks self.old.links }
     {
-        let last = self.links[end].older;
-        self.set_newer(last, at);
-        self.set_older(end, at);
-        self.set_newer(at, end);
-        self.set_older(at, last);
+        let last = self.at(end).older;
+        self.join(last, at);
+        self.join(at, end);
     }
 
     // Takes a place out, and joins its neighbours.
     fn remove(&mut self, at: usize)
-        requires { at < 512 }
         ensures newer { newers self.new.links ≡ slice_set (newers self.old.links) (slice_index (olders self.old.links) at) (slice_index (newers self.old.links) at) }
         ensures older { olders self.new.links ≡ slice_set (olders self.old.links) (slice_index (newers self.old.links) at) (slice_index (olders self.old.links) at) }
         ensures marks { marks self.new.links ≡ slice_set (marks self.old.links) at false }
     {
-        let older = self.links[at].older;
-        let newer = self.links[at].newer;
-        self.set_newer(older, newer);
-        self.set_older(newer, older);
-        self.set_linked(at, false);
+        let Link { older, newer, .. } = self.at(at);
+        self.join(older, newer);
+        self.mark(at, false);
     }
 }

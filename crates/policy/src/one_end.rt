@@ -33,58 +33,50 @@ impl Sequential {
         }
     }
 
-    fn lowest(&self) -> Option<Place>
-        ensures { Chosen self.now.marks result × Nearest End.Low self.now.marks result }
+    // Marks a place as held or not. One past the last changes nothing.
+    fn mark(&mut self, place: Place, held: bool)
+        ensures set { self.new.marks ≡ slice_set self.old.marks place.0 held }
+        ensures end { self.new.end ≡ self.old.end }
     {
-        for (at, mark) in self.marks.iter().enumerate() {
-            if *mark {
-                return Some(Place(at));
-            }
+        if place.0 < self.marks.len() {
+            self.marks[place.0] = held;
         }
-        None
     }
 
-    fn highest(&self) -> Option<Place>
-        ensures { Chosen self.now.marks result × Nearest End.High self.now.marks result }
+    // The member nearest to the end.
+    fn nearest(&self) -> Option<Place>
+        ensures { Chosen self.now.marks result × Nearest self.now.end self.now.marks result }
     {
-        for at in (0..512usize).rev() {
-            if self.marks[at] {
-                return Some(Place(at));
-            }
-        }
-        None
+        let mut marks = self.marks.iter();
+        let at = match self.end {
+            End::Low => marks.position(|held| *held),
+            End::High => marks.rposition(|held| *held),
+        };
+        at.map(Place)
     }
 }
 
 impl Policy for Sequential {
     const PLACES: usize = 512;
 
-    ghost room = { 512 };
+    ghost PLACES = { 512 };
 
     ghost held = { λ s. s.marks };
 
     ghost sized = { Prim.search rules };
 
-    fn most() -> usize {
-        Self::PLACES
-    }
-
     fn offer(&mut self, place: Place)
         ensures set { self.new.marks ≡ slice_set self.old.marks place.0 true }
         ensures end { self.new.end ≡ self.old.end }
     {
-        if place.0 < self.marks.len() {
-            self.marks[place.0] = true;
-        }
+        self.mark(place, true);
     }
 
     fn withdraw(&mut self, place: Place)
         ensures set { self.new.marks ≡ slice_set self.old.marks place.0 false }
         ensures end { self.new.end ≡ self.old.end }
     {
-        if place.0 < self.marks.len() {
-            self.marks[place.0] = false;
-        }
+        self.mark(place, false);
     }
 
     fn choose(&mut self) -> Option<Place>
@@ -93,9 +85,6 @@ impl Policy for Sequential {
         ensures nearest { Nearest self.old.end self.old.marks result }
         ensures kept { self.new ≡ self.old }
     {
-        match self.end {
-            End::Low => self.lowest(),
-            End::High => self.highest(),
-        }
+        self.nearest()
     }
 }

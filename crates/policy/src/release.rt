@@ -34,15 +34,11 @@ impl ReleaseOrder {
 impl Policy for ReleaseOrder {
     const PLACES: usize = 512;
 
-    ghost room = { 512 };
+    ghost PLACES = { 512 };
 
     ghost held = { λ s. marks s.links.links };
 
     ghost sized = { λ x. marks-length x.links.links x.links.ok };
-
-    fn most() -> usize {
-        Self::PLACES
-    }
 
     fn offer(&mut self, place: Place)
         ensures set { marks self.new.links.links ≡ slice_set (marks self.old.links.links) place.0 true }

@@ -62,7 +62,7 @@ impl Trunk {
         octets: &mut [u8],
     ) -> Result<(usize, usize), Refusal>
         requires table { length table.old ≡ self.config.systems * 32 }
-        requires places { length table.old ≤ P.Policy.room }
+        requires places { length table.old ≤ P.Policy.PLACES }
         requires words { 96 ≤ length words.old }
         requires octets { 320 ≤ length octets.old }
         ensures done { Done self.config (groupwise self.config system mask rule (grouped (first_of self.config system) what (indicator_of why) 30 (status_of mask)) table.old) result (lent table.old (P.Policy.held policy.old) words.old octets.old) (lent table.new (P.Policy.held policy.new) words.new octets.new) }
@@ -99,7 +99,7 @@ impl Trunk {
         octets: &mut [u8],
     ) -> Result<(usize, usize), Refusal>
         requires table { length table.old ≡ self.config.systems * 32 }
-        requires places { length table.old ≤ P.Policy.room }
+        requires places { length table.old ≤ P.Policy.PLACES }
         requires words { 96 ≤ length words.old }
         requires octets { 320 ≤ length octets.old }
         ensures done { Done self.config (clearing self.config system) result (lent table.old (P.Policy.held policy.old) words.old octets.old) (lent table.new (P.Policy.held policy.new) words.new octets.new) }
@@ -132,12 +132,12 @@ impl Trunk {
         words: &mut [u32],
         octets: &mut [u8],
     ) -> Result<(usize, usize), Refusal>
-        ensures done { Done self.config (group_blocking self.config P.Policy.room kind system mask (lent table.old (P.Policy.held policy.old) words.old octets.old)) result (lent table.old (P.Policy.held policy.old) words.old octets.old) (lent table.new (P.Policy.held policy.new) words.new octets.new) }
-        ensures laws { Laws self.config (group_blocking self.config P.Policy.room kind system mask (lent table.old (P.Policy.held policy.old) words.old octets.old)) (lent table.old (P.Policy.held policy.old) words.old octets.old) (lent table.new (P.Policy.held policy.new) words.new octets.new) }
+        ensures done { Done self.config (group_blocking self.config P.Policy.PLACES kind system mask (lent table.old (P.Policy.held policy.old) words.old octets.old)) result (lent table.old (P.Policy.held policy.old) words.old octets.old) (lent table.new (P.Policy.held policy.new) words.new octets.new) }
+        ensures laws { Laws self.config (group_blocking self.config P.Policy.PLACES kind system mask (lent table.old (P.Policy.held policy.old) words.old octets.old)) (lent table.old (P.Policy.held policy.old) words.old octets.old) (lent table.new (P.Policy.held policy.new) words.new octets.new) }
         ensures within { IfOk result (λ n. (n.0 ≤ length words.old) × (n.1 ≤ length octets.old)) }
-        ensures group { GroupLaws self.config system mask (Rule.Block (why_of kind)) (group_blocking self.config P.Policy.room kind system mask (lent table.old (P.Policy.held policy.old) words.old octets.old)) (lent table.old (P.Policy.held policy.old) words.old octets.old) (lent table.new (P.Policy.held policy.new) words.new octets.new) }
+        ensures group { GroupLaws self.config system mask (Rule.Block (why_of kind)) (group_blocking self.config P.Policy.PLACES kind system mask (lent table.old (P.Policy.held policy.old) words.old octets.old)) (lent table.old (P.Policy.held policy.old) words.old octets.old) (lent table.new (P.Policy.held policy.new) words.new octets.new) }
     {
-        match self.admit(P::most(), table.len(), words.len(), octets.len()) {
+        match self.admit(P::PLACES, table.len(), words.len(), octets.len()) {
             Err(refusal) => Err(refusal),
             Ok(()) => match type_of(kind, mask) {
                 Err(refusal) => Err(refusal),
@@ -170,12 +170,12 @@ impl Trunk {
         words: &mut [u32],
         octets: &mut [u8],
     ) -> Result<(usize, usize), Refusal>
-        ensures done { Done self.config (group_unblocking self.config P.Policy.room kind system mask (lent table.old (P.Policy.held policy.old) words.old octets.old)) result (lent table.old (P.Policy.held policy.old) words.old octets.old) (lent table.new (P.Policy.held policy.new) words.new octets.new) }
-        ensures laws { Laws self.config (group_unblocking self.config P.Policy.room kind system mask (lent table.old (P.Policy.held policy.old) words.old octets.old)) (lent table.old (P.Policy.held policy.old) words.old octets.old) (lent table.new (P.Policy.held policy.new) words.new octets.new) }
+        ensures done { Done self.config (group_unblocking self.config P.Policy.PLACES kind system mask (lent table.old (P.Policy.held policy.old) words.old octets.old)) result (lent table.old (P.Policy.held policy.old) words.old octets.old) (lent table.new (P.Policy.held policy.new) words.new octets.new) }
+        ensures laws { Laws self.config (group_unblocking self.config P.Policy.PLACES kind system mask (lent table.old (P.Policy.held policy.old) words.old octets.old)) (lent table.old (P.Policy.held policy.old) words.old octets.old) (lent table.new (P.Policy.held policy.new) words.new octets.new) }
         ensures within { IfOk result (λ n. (n.0 ≤ length words.old) × (n.1 ≤ length octets.old)) }
-        ensures group { GroupLaws self.config system mask (Rule.Unblock (why_of kind)) (group_unblocking self.config P.Policy.room kind system mask (lent table.old (P.Policy.held policy.old) words.old octets.old)) (lent table.old (P.Policy.held policy.old) words.old octets.old) (lent table.new (P.Policy.held policy.new) words.new octets.new) }
+        ensures group { GroupLaws self.config system mask (Rule.Unblock (why_of kind)) (group_unblocking self.config P.Policy.PLACES kind system mask (lent table.old (P.Policy.held policy.old) words.old octets.old)) (lent table.old (P.Policy.held policy.old) words.old octets.old) (lent table.new (P.Policy.held policy.new) words.new octets.new) }
     {
-        match self.admit(P::most(), table.len(), words.len(), octets.len()) {
+        match self.admit(P::PLACES, table.len(), words.len(), octets.len()) {
             Err(refusal) => Err(refusal),
             Ok(()) => match type_of(kind, mask) {
                 Err(refusal) => Err(refusal),
@@ -206,12 +206,12 @@ impl Trunk {
         words: &mut [u32],
         octets: &mut [u8],
     ) -> Result<(usize, usize), Refusal>
-        ensures done { Done self.config (group_resetting self.config P.Policy.room system (lent table.old (P.Policy.held policy.old) words.old octets.old)) result (lent table.old (P.Policy.held policy.old) words.old octets.old) (lent table.new (P.Policy.held policy.new) words.new octets.new) }
-        ensures laws { Laws self.config (group_resetting self.config P.Policy.room system (lent table.old (P.Policy.held policy.old) words.old octets.old)) (lent table.old (P.Policy.held policy.old) words.old octets.old) (lent table.new (P.Policy.held policy.new) words.new octets.new) }
+        ensures done { Done self.config (group_resetting self.config P.Policy.PLACES system (lent table.old (P.Policy.held policy.old) words.old octets.old)) result (lent table.old (P.Policy.held policy.old) words.old octets.old) (lent table.new (P.Policy.held policy.new) words.new octets.new) }
+        ensures laws { Laws self.config (group_resetting self.config P.Policy.PLACES system (lent table.old (P.Policy.held policy.old) words.old octets.old)) (lent table.old (P.Policy.held policy.old) words.old octets.old) (lent table.new (P.Policy.held policy.new) words.new octets.new) }
         ensures within { IfOk result (λ n. (n.0 ≤ length words.old) × (n.1 ≤ length octets.old)) }
-        ensures alike { ResetAlike self.config system (group_resetting self.config P.Policy.room system (lent table.old (P.Policy.held policy.old) words.old octets.old)) (lent table.old (P.Policy.held policy.old) words.old octets.old) (lent table.new (P.Policy.held policy.new) words.new octets.new) }
+        ensures alike { ResetAlike self.config system (group_resetting self.config P.Policy.PLACES system (lent table.old (P.Policy.held policy.old) words.old octets.old)) (lent table.old (P.Policy.held policy.old) words.old octets.old) (lent table.new (P.Policy.held policy.new) words.new octets.new) }
     {
-        match self.admit(P::most(), table.len(), words.len(), octets.len()) {
+        match self.admit(P::PLACES, table.len(), words.len(), octets.len()) {
             Err(refusal) => Err(refusal),
             Ok(()) => self.clear(system, table, policy, words, octets),
         }

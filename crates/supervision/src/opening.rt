@@ -56,7 +56,7 @@ fn fill(equipment: &[u32], table: &mut [Circuit])
 fn withdraw_all<P: Policy>(policy: &mut P)
     ensures { (k : ℕ) → slice_index_or (P.Policy.held policy.new) k false ≡ false }
 {
-    for place in 0..P::most() {
+    for place in 0..P::PLACES {
         policy.withdraw(Place(place));
     }
 }
@@ -64,8 +64,8 @@ fn withdraw_all<P: Policy>(policy: &mut P)
 // Offers each open circuit to a policy that holds nothing.
 fn offer_open<P: Policy>(table: &[Circuit], policy: &mut P)
     requires none { (k : ℕ) → slice_index_or (P.Policy.held policy.old) k false ≡ false }
-    requires places { length table.now ≤ P.Policy.room }
-    ensures { P.Policy.held policy.new ≡ open_set P.Policy.room table.now }
+    requires places { length table.now ≤ P.Policy.PLACES }
+    ensures { P.Policy.held policy.new ≡ open_set P.Policy.PLACES table.now }
 {
     for (place, circuit) in table.iter().enumerate() {
         if circuit.is_open() {
@@ -83,14 +83,14 @@ impl Trunk {
         table: &mut [Circuit],
         policy: &mut P,
     ) -> Result<Trunk, Refusal>
-        ensures value { config_of result ≡ opening P.Policy.room first equipment.now higher (length table.old) }
-        ensures after { OpenedIf (config_of result) P.Policy.room equipment.now table.old (P.Policy.held policy.old) table.new (P.Policy.held policy.new) }
+        ensures value { config_of result ≡ opening P.Policy.PLACES first equipment.now higher (length table.old) }
+        ensures after { OpenedIf (config_of result) P.Policy.PLACES equipment.now table.old (P.Policy.held policy.old) table.new (P.Policy.held policy.new) }
         ensures laws { OpenLaws (config_of result) table.new (P.Policy.held policy.new) }
     {
         if !fits_trunk(first, equipment, table.len()) {
             return Err(Refusal::Opening);
         }
-        if P::most() < table.len() {
+        if P::PLACES < table.len() {
             return Err(Refusal::Places);
         }
         fill(equipment, table);

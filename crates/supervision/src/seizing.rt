@@ -74,10 +74,10 @@ impl Trunk {
         words: &mut [u32],
         octets: &mut [u8],
     ) -> Result<(usize, usize), Refusal>
-        ensures seized { Seized self.config P.Policy.room body.now result (lent table.old (P.Policy.held policy.old) words.old octets.old) (lent table.new (P.Policy.held policy.new) words.new octets.new) }
+        ensures seized { Seized self.config P.Policy.PLACES body.now result (lent table.old (P.Policy.held policy.old) words.old octets.old) (lent table.new (P.Policy.held policy.new) words.new octets.new) }
         ensures within { IfOk result (λ n. (n.0 ≤ length words.old) × (n.1 ≤ length octets.old)) }
     {
-        match self.admit(P::most(), table.len(), words.len(), octets.len()) {
+        match self.admit(P::PLACES, table.len(), words.len(), octets.len()) {
             Err(refusal) => Err(refusal),
             Ok(()) => {
                 if body.len() < 1 || body.len() > 256 {

@@ -28,7 +28,7 @@ impl Trunk {
         octets: &mut [u8],
     ) -> Result<(usize, usize), Refusal>
         requires table { length table.old ≡ self.config.systems * 32 }
-        requires places { length table.old ≤ P.Policy.room }
+        requires places { length table.old ≤ P.Policy.PLACES }
         requires words { 96 ≤ length words.old }
         requires octets { 320 ≤ length octets.old }
         requires writable { cic.0 < 4096 → refusal_of (meaning message) ≡ None }
@@ -57,11 +57,11 @@ impl Trunk {
         words: &mut [u32],
         octets: &mut [u8],
     ) -> Result<(usize, usize), Refusal>
-        ensures done { Done self.config (releasing self.config P.Policy.room cic location value (lent table.old (P.Policy.held policy.old) words.old octets.old)) result (lent table.old (P.Policy.held policy.old) words.old octets.old) (lent table.new (P.Policy.held policy.new) words.new octets.new) }
-        ensures laws { Laws self.config (releasing self.config P.Policy.room cic location value (lent table.old (P.Policy.held policy.old) words.old octets.old)) (lent table.old (P.Policy.held policy.old) words.old octets.old) (lent table.new (P.Policy.held policy.new) words.new octets.new) }
+        ensures done { Done self.config (releasing self.config P.Policy.PLACES cic location value (lent table.old (P.Policy.held policy.old) words.old octets.old)) result (lent table.old (P.Policy.held policy.old) words.old octets.old) (lent table.new (P.Policy.held policy.new) words.new octets.new) }
+        ensures laws { Laws self.config (releasing self.config P.Policy.PLACES cic location value (lent table.old (P.Policy.held policy.old) words.old octets.old)) (lent table.old (P.Policy.held policy.old) words.old octets.old) (lent table.new (P.Policy.held policy.new) words.new octets.new) }
         ensures within { IfOk result (λ n. (n.0 ≤ length words.old) × (n.1 ≤ length octets.old)) }
     {
-        match self.admit(P::most(), table.len(), words.len(), octets.len()) {
+        match self.admit(P::PLACES, table.len(), words.len(), octets.len()) {
             Err(refusal) => Err(refusal),
             Ok(()) => match cause_of(location, value) {
                 Err(refusal) => Err(refusal),
@@ -84,11 +84,11 @@ impl Trunk {
         words: &mut [u32],
         octets: &mut [u8],
     ) -> Result<(usize, usize), Refusal>
-        ensures done { Done self.config (blocking self.config P.Policy.room cic (lent table.old (P.Policy.held policy.old) words.old octets.old)) result (lent table.old (P.Policy.held policy.old) words.old octets.old) (lent table.new (P.Policy.held policy.new) words.new octets.new) }
-        ensures laws { Laws self.config (blocking self.config P.Policy.room cic (lent table.old (P.Policy.held policy.old) words.old octets.old)) (lent table.old (P.Policy.held policy.old) words.old octets.old) (lent table.new (P.Policy.held policy.new) words.new octets.new) }
+        ensures done { Done self.config (blocking self.config P.Policy.PLACES cic (lent table.old (P.Policy.held policy.old) words.old octets.old)) result (lent table.old (P.Policy.held policy.old) words.old octets.old) (lent table.new (P.Policy.held policy.new) words.new octets.new) }
+        ensures laws { Laws self.config (blocking self.config P.Policy.PLACES cic (lent table.old (P.Policy.held policy.old) words.old octets.old)) (lent table.old (P.Policy.held policy.old) words.old octets.old) (lent table.new (P.Policy.held policy.new) words.new octets.new) }
         ensures within { IfOk result (λ n. (n.0 ≤ length words.old) × (n.1 ≤ length octets.old)) }
     {
-        match self.admit(P::most(), table.len(), words.len(), octets.len()) {
+        match self.admit(P::PLACES, table.len(), words.len(), octets.len()) {
             Err(refusal) => Err(refusal),
             Ok(()) => {
                 let message = Message::Single(cic, Single::Blo);
@@ -107,11 +107,11 @@ impl Trunk {
         words: &mut [u32],
         octets: &mut [u8],
     ) -> Result<(usize, usize), Refusal>
-        ensures done { Done self.config (unblocking self.config P.Policy.room cic (lent table.old (P.Policy.held policy.old) words.old octets.old)) result (lent table.old (P.Policy.held policy.old) words.old octets.old) (lent table.new (P.Policy.held policy.new) words.new octets.new) }
-        ensures laws { Laws self.config (unblocking self.config P.Policy.room cic (lent table.old (P.Policy.held policy.old) words.old octets.old)) (lent table.old (P.Policy.held policy.old) words.old octets.old) (lent table.new (P.Policy.held policy.new) words.new octets.new) }
+        ensures done { Done self.config (unblocking self.config P.Policy.PLACES cic (lent table.old (P.Policy.held policy.old) words.old octets.old)) result (lent table.old (P.Policy.held policy.old) words.old octets.old) (lent table.new (P.Policy.held policy.new) words.new octets.new) }
+        ensures laws { Laws self.config (unblocking self.config P.Policy.PLACES cic (lent table.old (P.Policy.held policy.old) words.old octets.old)) (lent table.old (P.Policy.held policy.old) words.old octets.old) (lent table.new (P.Policy.held policy.new) words.new octets.new) }
         ensures within { IfOk result (λ n. (n.0 ≤ length words.old) × (n.1 ≤ length octets.old)) }
     {
-        match self.admit(P::most(), table.len(), words.len(), octets.len()) {
+        match self.admit(P::PLACES, table.len(), words.len(), octets.len()) {
             Err(refusal) => Err(refusal),
             Ok(()) => {
                 let message = Message::Single(cic, Single::Ubl);
@@ -130,11 +130,11 @@ impl Trunk {
         words: &mut [u32],
         octets: &mut [u8],
     ) -> Result<(usize, usize), Refusal>
-        ensures done { Done self.config (resetting self.config P.Policy.room cic (lent table.old (P.Policy.held policy.old) words.old octets.old)) result (lent table.old (P.Policy.held policy.old) words.old octets.old) (lent table.new (P.Policy.held policy.new) words.new octets.new) }
-        ensures laws { Laws self.config (resetting self.config P.Policy.room cic (lent table.old (P.Policy.held policy.old) words.old octets.old)) (lent table.old (P.Policy.held policy.old) words.old octets.old) (lent table.new (P.Policy.held policy.new) words.new octets.new) }
+        ensures done { Done self.config (resetting self.config P.Policy.PLACES cic (lent table.old (P.Policy.held policy.old) words.old octets.old)) result (lent table.old (P.Policy.held policy.old) words.old octets.old) (lent table.new (P.Policy.held policy.new) words.new octets.new) }
+        ensures laws { Laws self.config (resetting self.config P.Policy.PLACES cic (lent table.old (P.Policy.held policy.old) words.old octets.old)) (lent table.old (P.Policy.held policy.old) words.old octets.old) (lent table.new (P.Policy.held policy.new) words.new octets.new) }
         ensures within { IfOk result (λ n. (n.0 ≤ length words.old) × (n.1 ≤ length octets.old)) }
     {
-        match self.admit(P::most(), table.len(), words.len(), octets.len()) {
+        match self.admit(P::PLACES, table.len(), words.len(), octets.len()) {
             Err(refusal) => Err(refusal),
             Ok(()) => {
                 let message = Message::Single(cic, Single::Rsc);

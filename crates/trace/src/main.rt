@@ -23,7 +23,7 @@ fn explain_line<W: Write>(
     tally: &mut Tally,
 ) -> io::Result<()> {
     let text = without_end(line);
-    if text.len() > 0 && text[0] == b'#' {
+    if text.starts_with(b"#") {
         return Ok(());
     }
     let Some(octets) = hex_octets(heap, text)? else {
@@ -31,7 +31,7 @@ fn explain_line<W: Write>(
         out.write_all(text)?;
         return out.write_all(b" | not hexadecimal\n");
     };
-    if octets.len() == 0 {
+    if octets.is_empty() {
         return Ok(());
     }
     let found = read(octets.as_slice());
@@ -54,6 +54,7 @@ fn run(rt: &HostRuntime) -> io::Result<()> {
         refused: 0,
         not_hex: 0,
     };
+    // A count, since each loop is proved to end. `split` would not tell whether the last line had its line feed.
     for _ in 0..u64::MAX {
         line.clear();
         if input.read_until(b'\n', &mut line)? == 0 {
@@ -74,8 +75,5 @@ fn run(rt: &HostRuntime) -> io::Result<()> {
 }
 
 fn main(rt: HostRuntime) -> anyhow::Result<()> {
-    match run(&rt) {
-        Ok(()) => Ok(()),
-        Err(e) => Err(e.into()),
-    }
+    Ok(run(&rt)?)
 }

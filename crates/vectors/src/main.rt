@@ -9,27 +9,13 @@ use std::io::{BufRead, BufReader, Write};
 
 // A line cut at its first bar, without the spaces beside it.
 fn cut(line: &[u8]) -> Option<(&[u8], &[u8])> {
-    for at in 1..line.len() {
-        if line[at] == b'|' && at + 2 <= line.len() {
-            let (left, _) = line.split_at(at - 1);
-            let (_, right) = line.split_at(at + 2);
-            return Some((left, right));
-        }
-    }
-    None
+    let left = line.windows(3).position(|three| three[1] == b'|')?;
+    Some((&line[..left], &line[left + 3..]))
 }
 
 // Whether `text` begins with the words `said`.
 fn begins(text: &[u8], said: &[u8]) -> bool {
-    if text.len() < said.len() {
-        return false;
-    }
-    for at in 0..said.len() {
-        if text[at] != said[at] {
-            return false;
-        }
-    }
-    text.len() == said.len() || text[said.len()] == b' '
+    matches!(text.strip_prefix(said), Some([] | [b' ', ..]))
 }
 
 // Whether the message, written again, is explained alike.
@@ -62,6 +48,7 @@ fn run(rt: &HostRuntime) -> io::Result<()> {
     let mut line = Vec::new(rt.alloc());
     let mut same = 0u64;
     let mut other = 0u64;
+    // A count, since each loop is proved to end. `split` would not tell whether the last line had its line feed.
     for _ in 0..u64::MAX {
         line.clear();
         if input.read_until(b'\n', &mut line)? == 0 {
@@ -83,8 +70,5 @@ fn run(rt: &HostRuntime) -> io::Result<()> {
 }
 
 fn main(rt: HostRuntime) -> anyhow::Result<()> {
-    match run(&rt) {
-        Ok(()) => Ok(()),
-        Err(e) => Err(e.into()),
-    }
+    Ok(run(&rt)?)
 }

@@ -27,7 +27,7 @@ returns g c =
     let h = g.P.Policy.held c.args.policy.now in
     let e : take c.loop-word.word-index c.args.words.now ≡ c.args.words.now = take_all _ _ c.loop-word-test.false in
     let a : g.P.Policy.held c.loop-word.policy ≡ after c.args.words.now h = c.loop-word.invariant ∙ ap (λ (ws : List Word). after ws h) e in
-    let z : length h ≡ g.P.Policy.room = g.met.P.Policy.sized c.args.policy.now in
+    let z : length h ≡ g.P.Policy.PLACES = g.met.P.Policy.sized c.args.policy.now in
     record {
       all = a;
       last = λ k l. ap (λ (m : List Bool). get_or m k false) a ∙ last_decides c.args.words.now h k (omega (arith, z));

@@ -11,7 +11,7 @@ returns g c =
     let T = c.args.table.now in
     let held = g.P.Policy.held c.loop-place.policy in
     let n = c.loop-place.place in
-    fill_by_all (λ k. is_open (placed T k)) held g.P.Policy.room false (g.met.P.Policy.sized c.loop-place.policy)
+    fill_by_all (λ k. is_open (placed T k)) held g.P.Policy.PLACES false (g.met.P.Policy.sized c.loop-place.policy)
     (λ k h. c.loop-place.invariant k ∙ ⊎_elim
     (λ (l : k < n). rw (lt-ltb k n l) refl)
     (λ (l : n ≤ k). rw (le-ltb k n l, get_or_past T k vacant (omega arith)) refl)

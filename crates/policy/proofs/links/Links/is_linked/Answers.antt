@@ -1,5 +1,6 @@
 use Rattle.std.proofs.Common.{false, sym, ◌∙◌, arith}
 use Rattle.std.proofs.lemmas.List.{get_or_past, get_or-take}
+use Rattle.std.proofs.lemmas.Bool.Decides.{nat_tests}
 use Rattle.policy.specs.Fields.{blank, field_at}
 use Rattle.policy.specs.Keeping.{marks-length}
 use Rattle.policy.specs.Orders.{marks}
@@ -15,4 +16,5 @@ pub returns-else-at-lt512 : goal.returns-else-at-lt512
 returns-else-at-lt512 c =
     let ls = c.args.self.now.links in
     let n = marks-length ls c.args.self.now.ok in
-    sym (get_or_past (marks ls) c.args.at false (omega arith))
+    let e = get_or_past (marks ls) c.args.at false (omega arith) in
+    grind (arith, nat_tests)

@@ -2,5 +2,8 @@ use Rattle.std.proofs.Common.{refl}
 use Rattle.policy.specs.Ordering.{none_marked}
 use Rattle.policy.proofs.links.Links.new.Goals as goal
 
-pub returns : goal.returns
-returns c = record { none = refl; order = λ e. (none_marked, tt, (refl, refl), (refl, refl)) }
+pub returns-clause-order : goal.returns-clause-order
+returns-clause-order c e =
+    let a = c.join.ensures in
+    let b = c.join-2.ensures in
+    rw (b.newer, b.older, b.marks, a.newer, a.older, a.marks) (none_marked, tt, (refl, refl), (refl, refl))

@@ -10,10 +10,10 @@ returns-then-not-linked c =
     let at = c.args.at in
     let end = c.end_for.result in
     let p = c.append.ensures in
-    let q = c.set_linked.ensures in
+    let q = c.mark.ensures in
     let m : marks c.append.new.self.links ≡ set (marks ls) at true = p.marks ∙ q.marks in
     let n : newers c.append.new.self.links ≡ set (set (newers ls) (get_or (olders ls) end 0) at) at end = cc in
-    let o : olders c.append.new.self.links ≡ set (set (olders ls) end at) at (get_or (olders ls) end 0) = cc in
+    let o : olders c.append.new.self.links ≡ set (set (olders ls) at (get_or (olders ls) end 0)) end at = cc in
     record {
       set = m;
       order = offer_new c.args.even ls _ at end c.args.self.now.ok c.if-at-lt512.true (sym c.if-not-linked.ensures) c.end_for.ensures n o m;
@@ -21,7 +21,7 @@ returns-then-not-linked c =
 
 pub returns-else-not-linked : goal.returns-else-not-linked
 returns-else-not-linked c =
-    let q = c.set_linked.ensures in
+    let q = c.mark.ensures in
     record {
       set = q.marks;
       order = offer_member c.args.even c.args.self.now.links _ c.args.at (sym c.if-not-linked.ensures) q.newer q.older q.marks;

@@ -1,6 +1,5 @@
-use Rattle.std.proofs.Common.{false, sym, arith}
-use Rattle.std.proofs.lemmas.List.{get_or_past}
-use Rattle.policy.specs.Keeping.{marks-length, same_mark, withdraw_member, withdraw_other}
+use Rattle.std.proofs.Common.{sym}
+use Rattle.policy.specs.Keeping.{same_mark, withdraw_member, withdraw_other}
 use Rattle.policy.specs.Orders.{marks}
 use Rattle.policy.proofs.links.Links.withdraw.Goals as goal
 
@@ -17,11 +16,4 @@ pub returns-else-is_linked : goal.returns-else-is_linked
 returns-else-is_linked c =
     let ls = c.args.self.now.links in
     let f = sym c.if-is_linked.ensures in
-    record { set = same_mark (marks ls) c.args.at false f; order = λ e. withdraw_other e ls c.args.at f }
-
-pub returns-else-at-lt512 : goal.returns-else-at-lt512
-returns-else-at-lt512 c =
-    let ls = c.args.self.now.links in
-    let n = marks-length ls c.args.self.now.ok in
-    let f = get_or_past (marks ls) c.args.at false (omega arith) in
-    record { set = same_mark (marks ls) c.args.at false f; order = λ e. withdraw_other e ls c.args.at f }
+    record { set = same_mark (marks ls) c.args.at _ f; order = λ e. withdraw_other e ls c.args.at f }

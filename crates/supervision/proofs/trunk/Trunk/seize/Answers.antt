@@ -15,9 +15,9 @@ returns-in-Ok-pick g c =
     let body = c.args.body.now in
     let before = lent c.args.table.now (g.P.Policy.held c.args.policy.now) c.args.words.now c.args.octets.now in
     let after = lent c.take.new.table (g.P.Policy.held c.take.new.policy) c.take.new.words c.take.new.octets in
-    let ok : admitted t g.P.Policy.room before ≡ Ok tt = rw (← c.most.ensures) (sym c.in-Ok.ensures.value) in
+    let ok : admitted t g.P.Policy.PLACES before ≡ Ok tt = rw (← c.PLACES.ensures) (sym c.in-Ok.ensures.value) in
     let size : (ltb (length body) 1 || ltb 256 (length body)) ≡ false = or_from (ltb (length body) 1) (ltb 256 (length body)) (le-ltb (length body) 1 (omega arith)) (le-ltb 256 (length body) (omega arith)) in
-    let may : may_ask t g.P.Policy.room body before ≡ Ok tt = rw (ok, size) refl in
+    let may : may_ask t g.P.Policy.PLACES body before ≡ Ok tt = rw (ok, size) refl in
     let v = c.in-Ok-pick.ensures.value in
     let same : g.P.Policy.held c.pick.new.policy ≡ g.P.Policy.held c.args.policy.now = c.in-Ok-pick.ensures.same in
     let asked = λ (h : List Bool). lent c.args.table.now h c.args.words.now c.args.octets.now in
@@ -25,7 +25,7 @@ returns-in-Ok-pick g c =
     record {
       seized = rw may
           (seizure_accepted t body v.0 c.in-Ok-pick.place c.take.result before after v.1 v.2
-          (rw (g.met.P.Policy.sized c.args.policy.now, ← c.most.ensures) c.in-Ok.ensures.enough.0)
+          (rw (g.met.P.Policy.sized c.args.policy.now, ← c.PLACES.ensures) c.in-Ok.ensures.enough.0)
           c.in-Ok-pick.ensures.found.1
           c.take.ensures.counts
           (c.take.ensures.after ∙ ap (λ (h : List Bool). carried t m (asked h)) same));

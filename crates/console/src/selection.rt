@@ -1,0 +1,54 @@
+// A policy of either method.
+ghost use Rattle.std.specs.Prelude.{◌≡◌};
+ghost use Rattle.policy.specs.Orders.{marks};
+ghost use Rattle.console.specs.Selections.{held_by, held_by-length};
+
+use crate::order::Method;
+use policy::{Place, Policy, ReleaseOrder, Sequential};
+
+#[derive(Clone, Copy)]
+pub(crate) enum Selection {
+    OneEnd(Sequential),
+    ReleaseOrder(ReleaseOrder),
+}
+
+impl Selection {
+    // A policy that holds nothing. With the higher point code the even places are controlled.
+    pub(crate) fn new(method: Method, higher: bool) -> Selection {
+        match method {
+            Method::OneEnd(end) => Selection::OneEnd(Sequential::new(end)),
+            Method::ReleaseOrder => Selection::ReleaseOrder(ReleaseOrder::new(higher)),
+        }
+    }
+}
+
+impl Policy for Selection {
+    const PLACES: usize = 512;
+
+    ghost PLACES = { 512 };
+
+    ghost held = { held_by };
+
+    ghost sized = { held_by-length };
+
+    fn offer(&mut self, place: Place) {
+        match self {
+            Selection::OneEnd(policy) => policy.offer(place),
+            Selection::ReleaseOrder(policy) => policy.offer(place),
+        }
+    }
+
+    fn withdraw(&mut self, place: Place) {
+        match self {
+            Selection::OneEnd(policy) => policy.withdraw(place),
+            Selection::ReleaseOrder(policy) => policy.withdraw(place),
+        }
+    }
+
+    fn choose(&mut self) -> Option<Place> {
+        match self {
+            Selection::OneEnd(policy) => policy.choose(),
+            Selection::ReleaseOrder(policy) => policy.choose(),
+        }
+    }
+}

@@ -1,5 +1,0 @@
-use Rattle.std.proofs.Common.{◌≡◌, ℕ, ◌≤◌, false, get_or}
-use Rattle.policy.proofs.one_end.Sequential.highest.Given as goal
-
-abbrev pub invariant-loop-at : goal.invariant-loop-at
-invariant-loop-at l = (k : ℕ) → l.at ≤ k → get_or l.self.marks k false ≡ false
