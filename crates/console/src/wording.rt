@@ -1,13 +1,13 @@
 // What an order is answered, in words.
 ghost use Rattle.std.specs.Prelude.{◌≡◌, ◌+◌, ◌≤◌, length, take, drop};
 
-use circuit::{Call, Circuit, LocalBlock, Reset};
-use explain::{Explanation, HexOctets};
+use circuit::Circuit;
+use explain::{Explanation, Hex};
 use message::read;
 use refusal::Refusal;
 use status::Cic;
 use std::fmt;
-use told::{Direction, EndCause, Word};
+use told::Word;
 
 #[derive(Clone, Copy)]
 pub enum Answer {
@@ -32,13 +32,10 @@ impl fmt::Display for Report<'_> {
             Answer::Done(words, octets) => {
                 let words = front(self.words, words);
                 let octets = front(self.octets, octets);
-                show_done(words, octets, f)
+                write!(f, "{}", Outputs { words, octets })
             }
-            Answer::Shown(cic, circuit) => {
-                let shown = Standing { cic, circuit };
-                writeln!(f, "{shown}")
-            }
-            Answer::Refused(refusal) => show_refusal(refusal, f),
+            Answer::Shown(cic, circuit) => writeln!(f, "{}", Standing { cic, circuit }),
+            Answer::Refused(refusal) => writeln!(f, "{refusal}"),
             Answer::NotUnderstood => writeln!(f, "not understood"),
         }
     }
@@ -48,61 +45,42 @@ impl fmt::Display for Report<'_> {
 fn front<T>(all: &[T], count: usize) -> &[T]
     ensures { result.now ≡ take count all.now }
 {
-    if count < all.len() {
-        &all[0..count]
-    } else {
-        all
-    }
+    all.get(..count).unwrap_or(all)
 }
 
-fn show_done<W: fmt::Write>(
-    words: &[u32],
-    octets: &[u8],
-    f: &mut fmt::Formatter<W>,
-) -> fmt::Result {
-    let numbers = HexWords(words);
-    writeln!(f, "ok")?;
-    writeln!(f, "words {numbers}")?;
-    if octets.len() == 0 {
-        writeln!(f, "octets -")?;
-    } else {
-        let written = HexOctets(octets);
-        writeln!(f, "octets {written}")?;
-    }
-    for number in words {
-        let told = Told {
-            number: *number,
-            octets,
-        };
-        writeln!(f, "  {told}")?;
-    }
-    Ok(())
-}
-
-fn show_refusal<W: fmt::Write>(refusal: Refusal, f: &mut fmt::Formatter<W>) -> fmt::Result {
-    let number = refusal.number();
-    match refusal.type_octet() {
-        Some(kind) => writeln!(f, "refused {number} type={kind:02X}"),
-        None => writeln!(f, "refused {number}"),
-    }
-}
-
-// Words as hexadecimal digits, or `-` for none.
+// What an operation wrote.
 #[derive(Clone, Copy)]
-struct HexWords<'a>(&'a [u32]);
+struct Outputs<'a> {
+    words: &'a [u32],
+    octets: &'a [u8],
+}
 
-impl fmt::Display for HexWords<'_> {
+impl fmt::Display for Outputs<'_> {
     fn fmt<W: fmt::Write>(&self, f: &mut fmt::Formatter<W>) -> fmt::Result {
-        let mut gap = "";
-        for word in self.0 {
+        let octets = self.octets;
+        writeln!(f, "ok")?;
+        writeln!(f, "words {}", OrNone(Hex::<u32, 8>(self.words)))?;
+        writeln!(f, "octets {}", OrNone(Hex::<u8, 2>(octets)))?;
+        for word in self.words {
             let number = *word;
-            write!(f, "{gap}{number:08X}")?;
-            gap = " ";
-        }
-        if self.0.len() == 0 {
-            write!(f, "-")?;
+            writeln!(f, "  {}", Told { number, octets })?;
         }
         Ok(())
+    }
+}
+
+// Numbers as hexadecimal digits, or `-` for none.
+#[derive(Clone, Copy)]
+struct OrNone<'a, T, const DIGITS: usize>(Hex<'a, T, DIGITS>);
+
+impl<T: fmt::Radix + Copy, const DIGITS: usize> fmt::Display for OrNone<'_, T, DIGITS> {
+    fn fmt<W: fmt::Write>(&self, f: &mut fmt::Formatter<W>) -> fmt::Result {
+        let numbers = self.0;
+        if numbers.0.is_empty() {
+            write!(f, "-")
+        } else {
+            write!(f, "{numbers}")
+        }
     }
 }
 
@@ -120,18 +98,9 @@ impl fmt::Display for Told<'_> {
                 let message = Explanation(read(sent(self.octets, place, length)));
                 write!(f, "send {message}")
             }
-            Ok(Word::Begun(direction, Cic(cic))) => {
-                let way = direction_name(direction);
-                write!(f, "begun cic={cic} {way}")
-            }
-            Ok(Word::Ended(cause, Cic(cic))) => {
-                let by = cause_name(cause);
-                write!(f, "ended cic={cic} by a {by}")
-            }
-            Ok(Word::Alert(timer, Cic(cic))) => {
-                let number = u8::from(timer);
-                write!(f, "alert cic={cic} T{number}")
-            }
+            Ok(Word::Begun(way, cic)) => write!(f, "begun cic={cic} {way}"),
+            Ok(Word::Ended(cause, cic)) => write!(f, "ended cic={cic} by a {cause}"),
+            Ok(Word::Alert(timer, cic)) => write!(f, "alert cic={cic} {timer}"),
             Err(_) => write!(f, "no word"),
         }
     }
@@ -142,12 +111,7 @@ fn sent(octets: &[u8], place: u16, size: u16) -> &[u8]
     ensures { place + size ≤ length octets.now → result.now ≡ take size (drop place octets.now) }
 {
     let start = place as usize;
-    let end = start + size as usize;
-    if end <= octets.len() {
-        &octets[start..end]
-    } else {
-        &[]
-    }
+    octets.get(start..start + size as usize).unwrap_or(&[])
 }
 
 // A circuit as it stands.
@@ -159,72 +123,34 @@ struct Standing {
 
 impl fmt::Display for Standing {
     fn fmt<W: fmt::Write>(&self, f: &mut fmt::Formatter<W>) -> fmt::Result {
-        let cic = self.cic.0;
+        let cic = self.cic;
         let circuit = self.circuit;
         if !circuit.equipped {
             return write!(f, "circuit {cic}: not equipped");
         }
-        let call = call_name(circuit.call);
-        let maintenance = block_name(circuit.local.maintenance);
-        let hardware = block_name(circuit.local.hardware);
+        let Circuit {
+            call,
+            local,
+            far,
+            reset,
+            cause,
+            ..
+        } = circuit;
         write!(
             f,
-            "circuit {cic}: {call}, maintenance {maintenance}, hardware {hardware}, "
+            "circuit {cic}: {call}, maintenance {}, hardware {}, ",
+            local.maintenance,
+            local.hardware
         )?;
-        let maintenance = yes_no(circuit.far.maintenance);
-        let hardware = yes_no(circuit.far.hardware);
         write!(
             f,
-            "far maintenance {maintenance}, far hardware {hardware}, "
+            "far maintenance {}, far hardware {}, ",
+            yes_no(far.maintenance),
+            yes_no(far.hardware)
         )?;
-        let reset = reset_name(circuit.reset);
-        let location = circuit.cause.location;
-        let value = circuit.cause.value;
+        let octets = [cause.location, cause.value];
         let open = if circuit.is_open() { "open" } else { "closed" };
-        write!(f, "reset {reset}, cause {location:02X} {value:02X}, {open}")
-    }
-}
-
-fn direction_name(direction: Direction) -> &'static str {
-    match direction {
-        Direction::Outgoing => "outgoing",
-        Direction::Incoming => "incoming",
-    }
-}
-
-fn cause_name(cause: EndCause) -> &'static str {
-    match cause {
-        EndCause::ReleaseReceived => "release received",
-        EndCause::ReleaseComplete => "release complete",
-        EndCause::Reset => "reset",
-        EndCause::HardwareBlock => "hardware block",
-        EndCause::DualSeizure => "dual seizure",
-    }
-}
-
-fn call_name(call: Call) -> &'static str {
-    match call {
-        Call::Idle => "idle",
-        Call::Calling => "calling",
-        Call::Talking => "talking",
-        Call::Releasing => "releasing",
-    }
-}
-
-fn block_name(block: LocalBlock) -> &'static str {
-    match block {
-        LocalBlock::None => "none",
-        LocalBlock::Asked => "asked",
-        LocalBlock::Set => "set",
-        LocalBlock::Lifting => "lifting",
-    }
-}
-
-fn reset_name(reset: Reset) -> &'static str {
-    match reset {
-        Reset::None => "none",
-        Reset::Single => "single",
-        Reset::Group => "group",
+        write!(f, "reset {reset}, cause {}, {open}", Hex::<u8, 2>(&octets))
     }
 }
 

@@ -5,4 +5,4 @@ mod hex;
 mod words;
 
 pub use hex::{hex_octets, without_end};
-pub use words::{Explanation, HexOctets};
+pub use words::{Explanation, Hex};

@@ -1,7 +1,7 @@
 // Explains a trace: one message to a line of standard input as hexadecimal octets, one line of explanation each.
 #![tactic(auto)]
 
-use explain::{Explanation, HexOctets, hex_octets, without_end};
+use explain::{Explanation, Hex, hex_octets, without_end};
 use message::read;
 use std::alloc::Global;
 use std::io;
@@ -40,7 +40,7 @@ fn explain_line<W: Write>(
     } else {
         tally.refused = tally.refused.saturating_add(1);
     }
-    let shown = HexOctets(octets.as_slice());
+    let shown = Hex::<u8, 2>(octets.as_slice());
     let words = Explanation(found);
     writeln!(out, "{shown} | {words}")
 }
