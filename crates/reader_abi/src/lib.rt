@@ -1,4 +1,4 @@
-// The reader for callers of C: what a message says, in plain numbers.
+// The reader for callers of C. Its interface has plain numbers only: 0 for what a message does not have.
 #![tactic(auto)]
 
 ghost use Rattle.std.specs.Prelude.{◌≡◌, ◌-◌, length, slice_index};
