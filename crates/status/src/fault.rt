@@ -15,8 +15,8 @@ pub enum ParamFault {
 impl fmt::Display for ParamFault {
     fn fmt<W: fmt::Write>(&self, f: &mut fmt::Formatter<W>) -> fmt::Result {
         match self {
-            ParamFault::Layout(kind) => write!(f, "layout type={kind:02X}"),
-            ParamFault::Limit(kind) => write!(f, "limit type={kind:02X}"),
+            ParamFault::Layout(octet) => write!(f, "layout type={octet:02X}"),
+            ParamFault::Limit(octet) => write!(f, "limit type={octet:02X}"),
         }
     }
 }
