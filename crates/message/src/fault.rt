@@ -6,7 +6,7 @@ use status::ParamFault;
 use std::error::Error;
 use std::fmt;
 
-// Layout, limit and unknown type carry the type octet.
+// Layout, limit and unknown type carry the type octet as a number, as it was received.
 #[derive(Clone, Copy, PartialEq, Eq, Debug)]
 pub enum MessageFault {
     // The output is shorter than the message.
@@ -22,7 +22,7 @@ pub enum MessageFault {
 }
 
 impl MessageFault {
-    // The number of the refusal.
+    // The number of the refusal. A method and no `From`, since a fault has its type octet too.
     pub fn number(self) -> u8
         ensures { result ≡ number_of self }
     {

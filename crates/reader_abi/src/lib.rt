@@ -1,4 +1,4 @@
-// The reader for callers of C: what a message says, in plain numbers.
+// The reader for callers of C. Its interface has plain numbers only: 0 for what a message does not have.
 #![tactic(auto)]
 
 ghost use Rattle.std.specs.Prelude.{◌≡◌, ◌-◌, length, slice_index};
@@ -8,7 +8,7 @@ ghost use Rattle.reader_abi.specs.Report.{accepted, answer, indicator_in, part_i
 
 use message::{Message, MessageFault, read};
 
-// How many words a report has.
+// How many words a report has. C lends them, so that a report is an array and no struct.
 const WORDS: usize = 8;
 
 // The indicator, the range and the octets that a message does not take apart.
@@ -49,13 +49,13 @@ fn ends(part: &[u8]) -> (u8, u8)
 fn accepted_row(message: Message<'_>) -> [u64; WORDS]
     ensures { result ≡ accepted (meaning message.entry) }
 {
-    let kind = message.type_octet();
+    let octet = message.type_octet();
     let cic = message.cic();
     let (why, range, part) = fields(message);
     let (first, last) = ends(part);
     [
         0,
-        kind as u64,
+        octet as u64,
         cic.0 as u64,
         why as u64,
         range as u64,

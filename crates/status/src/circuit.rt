@@ -13,6 +13,7 @@ impl Cic {
     pub const LAST: Cic = Cic(4095);
 
     // The code in the first two octets of a message. The upper four bits of the second are spare.
+    // A method, as std's `from_le_bytes` is: a `From` would not say which octet is the low one.
     pub fn from_octets(low: u8, high: u8) -> Cic
         ensures value { result.0 ≡ cic_of low high }
         ensures bound { result.0 < 4096 }

@@ -2,7 +2,8 @@
 use std::error::Error;
 use std::fmt;
 
-// What is wrong with a parameter of a message; each case carries the message's type octet.
+// What is wrong with a parameter of a message.
+// Each case carries the message's type octet as a number, which `From` takes up to the message's fault.
 #[derive(Clone, Copy, PartialEq, Eq, Debug)]
 pub enum ParamFault {
     // The length, the end or the size of the status is not what the range asks for.
@@ -14,8 +15,8 @@ pub enum ParamFault {
 impl fmt::Display for ParamFault {
     fn fmt<W: fmt::Write>(&self, f: &mut fmt::Formatter<W>) -> fmt::Result {
         match self {
-            ParamFault::Layout(kind) => write!(f, "layout type={kind:02X}"),
-            ParamFault::Limit(kind) => write!(f, "limit type={kind:02X}"),
+            ParamFault::Layout(octet) => write!(f, "layout type={octet:02X}"),
+            ParamFault::Limit(octet) => write!(f, "limit type={octet:02X}"),
         }
     }
 }

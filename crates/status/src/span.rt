@@ -22,7 +22,7 @@ impl Range {
         0xff >> (7 - self.0 % 8)
     }
 
-    // Clears the spare bits of the last octet of a status.
+    // Clears the spare bits of the last octet. It takes octets to write, and a group only reads.
     pub fn clear_spare(self, status: &mut [u8])
         ensures after { status.new ≡ cleared self.0 status.old }
         ensures same { SameBits self.0 status.old status.new }
