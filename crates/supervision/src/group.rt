@@ -79,14 +79,10 @@ impl Trunk {
             range: RANGE,
             status: &status,
         };
-        match judge(first, group, rule, table) {
-            Err(refusal) => Err(refusal),
-            Ok(()) => {
-                let cic = Cic(self.config.first.0 + first.0 as u16);
-                let message = Message::Grouped(cic, what, why, group);
-                Ok(self.perform(first, group, rule, message, table, policy, words, octets))
-            }
-        }
+        judge(first, group, rule, table)?;
+        let cic = Cic(self.config.first.0 + first.0 as u16);
+        let message = Message::Grouped(cic, what, why, group);
+        Ok(self.perform(first, group, rule, message, table, policy, words, octets))
     }
 
     // Resets the circuits of a PCM system and sends the message.
@@ -137,26 +133,20 @@ impl Trunk {
         ensures within { IfOk result (λ n. (n.0 ≤ length words.old) × (n.1 ≤ length octets.old)) }
         ensures group { GroupLaws self.config system mask (Rule.Block (why_of kind)) (group_blocking self.config P.Policy.room kind system mask (lent table.old (P.Policy.held policy.old) words.old octets.old)) (lent table.old (P.Policy.held policy.old) words.old octets.old) (lent table.new (P.Policy.held policy.new) words.new octets.new) }
     {
-        match self.admit(P::most(), table.len(), words.len(), octets.len()) {
-            Err(refusal) => Err(refusal),
-            Ok(()) => match type_of(kind, mask) {
-                Err(refusal) => Err(refusal),
-                Ok(why) => {
-                    let rule = Rule::Block(why);
-                    self.order_group(
-                        system,
-                        mask,
-                        rule,
-                        Grouped::Cgb,
-                        why,
-                        table,
-                        policy,
-                        words,
-                        octets,
-                    )
-                }
-            },
-        }
+        self.admit(P::most(), table.len(), words.len(), octets.len())?;
+        let why = type_of(kind, mask)?;
+        let rule = Rule::Block(why);
+        self.order_group(
+            system,
+            mask,
+            rule,
+            Grouped::Cgb,
+            why,
+            table,
+            policy,
+            words,
+            octets,
+        )
     }
 
     // Lifts the blocks of the circuits of a mask.
@@ -175,26 +165,20 @@ impl Trunk {
         ensures within { IfOk result (λ n. (n.0 ≤ length words.old) × (n.1 ≤ length octets.old)) }
         ensures group { GroupLaws self.config system mask (Rule.Unblock (why_of kind)) (group_unblocking self.config P.Policy.room kind system mask (lent table.old (P.Policy.held policy.old) words.old octets.old)) (lent table.old (P.Policy.held policy.old) words.old octets.old) (lent table.new (P.Policy.held policy.new) words.new octets.new) }
     {
-        match self.admit(P::most(), table.len(), words.len(), octets.len()) {
-            Err(refusal) => Err(refusal),
-            Ok(()) => match type_of(kind, mask) {
-                Err(refusal) => Err(refusal),
-                Ok(why) => {
-                    let rule = Rule::Unblock(why);
-                    self.order_group(
-                        system,
-                        mask,
-                        rule,
-                        Grouped::Cgu,
-                        why,
-                        table,
-                        policy,
-                        words,
-                        octets,
-                    )
-                }
-            },
-        }
+        self.admit(P::most(), table.len(), words.len(), octets.len())?;
+        let why = type_of(kind, mask)?;
+        let rule = Rule::Unblock(why);
+        self.order_group(
+            system,
+            mask,
+            rule,
+            Grouped::Cgu,
+            why,
+            table,
+            policy,
+            words,
+            octets,
+        )
     }
 
     // Resets every circuit of a PCM system.
@@ -211,9 +195,7 @@ impl Trunk {
         ensures within { IfOk result (λ n. (n.0 ≤ length words.old) × (n.1 ≤ length octets.old)) }
         ensures alike { ResetAlike self.config system (group_resetting self.config P.Policy.room system (lent table.old (P.Policy.held policy.old) words.old octets.old)) (lent table.old (P.Policy.held policy.old) words.old octets.old) (lent table.new (P.Policy.held policy.new) words.new octets.new) }
     {
-        match self.admit(P::most(), table.len(), words.len(), octets.len()) {
-            Err(refusal) => Err(refusal),
-            Ok(()) => self.clear(system, table, policy, words, octets),
-        }
+        self.admit(P::most(), table.len(), words.len(), octets.len())?;
+        self.clear(system, table, policy, words, octets)
     }
 }

@@ -77,17 +77,11 @@ impl Trunk {
         ensures seized { Seized self.config P.Policy.room body.now result (lent table.old (P.Policy.held policy.old) words.old octets.old) (lent table.new (P.Policy.held policy.new) words.new octets.new) }
         ensures within { IfOk result (λ n. (n.0 ≤ length words.old) × (n.1 ≤ length octets.old)) }
     {
-        match self.admit(P::most(), table.len(), words.len(), octets.len()) {
-            Err(refusal) => Err(refusal),
-            Ok(()) => {
-                if body.len() < 1 || body.len() > 256 {
-                    return Err(Refusal::Argument);
-                }
-                match pick(table, policy) {
-                    Err(refusal) => Err(refusal),
-                    Ok(place) => Ok(self.take(place, body, table, policy, words, octets)),
-                }
-            }
+        self.admit(P::most(), table.len(), words.len(), octets.len())?;
+        if body.len() < 1 || body.len() > 256 {
+            return Err(Refusal::Argument);
         }
+        let place = pick(table, policy)?;
+        Ok(self.take(place, body, table, policy, words, octets))
     }
 }

@@ -37,13 +37,9 @@ impl Trunk {
         ensures laws { Laws self.config (singly self.config cic rule (meaning message.entry) table.old) (lent table.old (P.Policy.held policy.old) words.old octets.old) (lent table.new (P.Policy.held policy.new) words.new octets.new) }
         ensures within { IfOk result (λ n. (n.0 ≤ length words.old) × (n.1 ≤ length octets.old)) }
     {
-        match self.find(cic, rule, table) {
-            Err(refusal) => Err(refusal),
-            Ok(place) => {
-                let count = visit(self, place, rule, table, policy, words, 0);
-                Ok(send(message, words, count, octets, 0))
-            }
-        }
+        let place = self.find(cic, rule, table)?;
+        let count = visit(self, place, rule, table, policy, words, 0);
+        Ok(send(message, words, count, octets, 0))
     }
 
     // Releases a call, with the location and the value of its cause.
@@ -61,18 +57,12 @@ impl Trunk {
         ensures laws { Laws self.config (releasing self.config P.Policy.room cic location value (lent table.old (P.Policy.held policy.old) words.old octets.old)) (lent table.old (P.Policy.held policy.old) words.old octets.old) (lent table.new (P.Policy.held policy.new) words.new octets.new) }
         ensures within { IfOk result (λ n. (n.0 ≤ length words.old) × (n.1 ≤ length octets.old)) }
     {
-        match self.admit(P::most(), table.len(), words.len(), octets.len()) {
-            Err(refusal) => Err(refusal),
-            Ok(()) => match cause_of(location, value) {
-                Err(refusal) => Err(refusal),
-                Ok(cause) => {
-                    let pair = [cause.location, cause.value];
-                    let message = Message::Release(cic, &pair);
-                    let rule = Rule::Release(cause);
-                    self.order(cic, rule, message, table, policy, words, octets)
-                }
-            },
-        }
+        self.admit(P::most(), table.len(), words.len(), octets.len())?;
+        let cause = cause_of(location, value)?;
+        let pair = [cause.location, cause.value];
+        let message = Message::Release(cic, &pair);
+        let rule = Rule::Release(cause);
+        self.order(cic, rule, message, table, policy, words, octets)
     }
 
     // Asks the far exchange to keep calls off a circuit, for maintenance.
@@ -88,14 +78,10 @@ impl Trunk {
         ensures laws { Laws self.config (blocking self.config P.Policy.room cic (lent table.old (P.Policy.held policy.old) words.old octets.old)) (lent table.old (P.Policy.held policy.old) words.old octets.old) (lent table.new (P.Policy.held policy.new) words.new octets.new) }
         ensures within { IfOk result (λ n. (n.0 ≤ length words.old) × (n.1 ≤ length octets.old)) }
     {
-        match self.admit(P::most(), table.len(), words.len(), octets.len()) {
-            Err(refusal) => Err(refusal),
-            Ok(()) => {
-                let message = Message::Single(cic, Single::Blo);
-                let rule = Rule::Block(BlockType::Maintenance);
-                self.order(cic, rule, message, table, policy, words, octets)
-            }
-        }
+        self.admit(P::most(), table.len(), words.len(), octets.len())?;
+        let message = Message::Single(cic, Single::Blo);
+        let rule = Rule::Block(BlockType::Maintenance);
+        self.order(cic, rule, message, table, policy, words, octets)
     }
 
     // Asks it to lift that block.
@@ -111,14 +97,10 @@ impl Trunk {
         ensures laws { Laws self.config (unblocking self.config P.Policy.room cic (lent table.old (P.Policy.held policy.old) words.old octets.old)) (lent table.old (P.Policy.held policy.old) words.old octets.old) (lent table.new (P.Policy.held policy.new) words.new octets.new) }
         ensures within { IfOk result (λ n. (n.0 ≤ length words.old) × (n.1 ≤ length octets.old)) }
     {
-        match self.admit(P::most(), table.len(), words.len(), octets.len()) {
-            Err(refusal) => Err(refusal),
-            Ok(()) => {
-                let message = Message::Single(cic, Single::Ubl);
-                let rule = Rule::Unblock(BlockType::Maintenance);
-                self.order(cic, rule, message, table, policy, words, octets)
-            }
-        }
+        self.admit(P::most(), table.len(), words.len(), octets.len())?;
+        let message = Message::Single(cic, Single::Ubl);
+        let rule = Rule::Unblock(BlockType::Maintenance);
+        self.order(cic, rule, message, table, policy, words, octets)
     }
 
     // Ends the call of a circuit, clears its blocks, and asks the far exchange to do the same.
@@ -134,13 +116,9 @@ impl Trunk {
         ensures laws { Laws self.config (resetting self.config P.Policy.room cic (lent table.old (P.Policy.held policy.old) words.old octets.old)) (lent table.old (P.Policy.held policy.old) words.old octets.old) (lent table.new (P.Policy.held policy.new) words.new octets.new) }
         ensures within { IfOk result (λ n. (n.0 ≤ length words.old) × (n.1 ≤ length octets.old)) }
     {
-        match self.admit(P::most(), table.len(), words.len(), octets.len()) {
-            Err(refusal) => Err(refusal),
-            Ok(()) => {
-                let message = Message::Single(cic, Single::Rsc);
-                let rule = Rule::Reset(Reset::Single);
-                self.order(cic, rule, message, table, policy, words, octets)
-            }
-        }
+        self.admit(P::most(), table.len(), words.len(), octets.len())?;
+        let message = Message::Single(cic, Single::Rsc);
+        let rule = Rule::Reset(Reset::Single);
+        self.order(cic, rule, message, table, policy, words, octets)
     }
 }

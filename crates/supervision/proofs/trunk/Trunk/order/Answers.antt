@@ -14,12 +14,12 @@ use Rattle.supervision.proofs.trunk.Trunk.order.Goals as goal
 
 pub send-requires : goal.send-requires
 send-requires g c =
-    let f = c.in-Ok.ensures.found in
-    let x = applied c.args.rule (get_or c.args.table.now c.in-Ok.place.0 vacant) in
-    let short = told_short (cic_at c.args.self.config c.in-Ok.place.0) x in
+    let f = c.in_ok-place.ensures.found in
+    let x = applied c.args.rule (get_or c.args.table.now c.in_ok-place.place.0 vacant) in
+    let short = told_short (cic_at c.args.self.config c.in_ok-place.place.0) x in
     let t = c.args.self.config in
     let here = circuit_of t c.args.cic c.args.table.now in
-    let v = passed here.equipped (allows c.args.rule here) c.in-Ok.place (record { 0 = c.args.cic.0 - t.first.0 }) c.in-Ok.ensures.value in
+    let v = passed here.equipped (allows c.args.rule here) c.in_ok-place.place (record { 0 = c.args.cic.0 - t.first.0 }) c.in_ok-place.ensures.value in
     record {
       writable = c.requires.writable (omega (arith, f.0, f.1, v.2, c.args.self.ok.3));
       word = omega (arith, c.visit-count.ensures.count);
@@ -27,16 +27,16 @@ send-requires g c =
       small = omega arith;
     }
 
-pub returns-in-Ok : goal.returns-in-Ok
-returns-in-Ok g c =
+pub returns : goal.returns
+returns g c =
     let t = c.args.self.config in
     let T = c.args.table.now in
     let H = g.P.Policy.held c.args.policy.now in
     let W = c.args.words.now in
-    let f = c.in-Ok.ensures.found in
+    let f = c.in_ok-place.ensures.found in
     let here = circuit_of t c.args.cic T in
-    let v = passed here.equipped (allows c.args.rule here) c.in-Ok.place (record { 0 = c.args.cic.0 - t.first.0 }) c.in-Ok.ensures.value in
-    let p = c.in-Ok.place.0 in
+    let v = passed here.equipped (allows c.args.rule here) c.in_ok-place.place (record { 0 = c.args.cic.0 - t.first.0 }) c.in_ok-place.ensures.value in
+    let p = c.in_ok-place.place.0 in
     let q = c.args.cic.0 - t.first.0 in
     let x = applied c.args.rule (get_or T p vacant) in
     let short = told_short (cic_at t p) x in

@@ -1,4 +1,5 @@
 use Rattle.std.proofs.Common.{◌≡◌, ◌+◌, ◌*◌, ◌%◌, Ok, Err, refl, ap, ◌∙◌, add_assoc, arith}
+use Rattle.std.proofs.lemmas.Result.{err_from_is_err_and}
 use Rattle.message.specs.Meaning.{indicator_of}
 use Rattle.message.specs.Msg.{Msg, grouped}
 use Rattle.supervision.specs.Lending.{lent, Done, counts_of, carried}
@@ -11,24 +12,25 @@ use Rattle.supervision.proofs.Grouping.{group_answer}
 use Rattle.supervision.proofs.Keeping.{laws_of}
 use Rattle.supervision.proofs.trunk.Trunk.order_group.Goals as goal
 
-pub returns-in-Err : goal.returns-in-Err
-returns-in-Err g c =
+pub returns-in_err-judge : goal.returns-in_err-judge
+returns-in_err-judge g c =
     let t = c.args.self.config in
     let msg = grouped (first_of t c.args.system) c.args.what (indicator_of c.args.why) 30 (status_of c.args.mask) in
     let even : c.args.mask % 2 ≡ 0 = omega arith in
-    let a = group_answer t c.args.system c.args.mask c.args.rule msg c.args.table.now c.to_le_bytes-status.result (Err c.in-Err.refusal)
-    (omega arith) even c.to_le_bytes-status.ensures c.in-Err.ensures in
-    rw a (record { done = (refl, refl); laws = refl; within = tt; group = refl })
+    let a = group_answer t c.args.system c.args.mask c.args.rule msg c.args.table.now c.to_le_bytes-status.result (Err c.in_err-judge.field-0.0)
+    (omega arith) even c.to_le_bytes-status.ensures c.in_err-judge.ensures in
+    let p = err_from_is_err_and c.from_residual.result c.from_residual.ensures.1 in
+    rw (p.1, p.2, a) (record { done = (refl, refl); laws = refl; within = tt; group = refl })
 
-pub returns-in-Ok : goal.returns-in-Ok
-returns-in-Ok g c =
+pub returns : goal.returns
+returns g c =
     let t = c.args.self.config in
     let T = c.args.table.now in
     let msg = grouped (first_of t c.args.system) c.args.what (indicator_of c.args.why) 30 (status_of c.args.mask) in
     let even : c.args.mask % 2 ≡ 0 = omega arith in
     let a : groupwise t c.args.system c.args.mask c.args.rule msg T ≡ Ok (ordered (covers (c.args.system * 32 + 1) 30 c.to_le_bytes-status.result) c.args.rule msg) =
     group_answer t c.args.system c.args.mask c.args.rule msg T c.to_le_bytes-status.result (Ok tt)
-    (omega arith) even c.to_le_bytes-status.ensures c.in-Ok.ensures in
+    (omega arith) even c.to_le_bytes-status.ensures c.in_ok-judge.ensures in
     let named = covers (c.args.system * 32 + 1) 30 c.to_le_bytes-status.result in
     let before = lent T (g.P.Policy.held c.args.policy.now) c.args.words.now c.args.octets.now in
     let after = lent c.perform.new.table (g.P.Policy.held c.perform.new.policy) c.perform.new.words c.perform.new.octets in
