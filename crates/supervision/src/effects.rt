@@ -1,12 +1,15 @@
 // All that an accepted operation writes.
-ghost use Rattle.std.specs.Prelude.{◌≡◌, ◌+◌, ◌*◌, ◌<◌, ◌≤◌, ◌++◌, map, length, take, drop, None, slice_index_or, slice_set};
+ghost use Rattle.std.specs.Prelude.{◌≡◌, ◌+◌, ◌*◌, ◌<◌, ◌≤◌, ◌++◌, true, map, length, take, drop, None, nat_eq, slice_index_or, slice_set};
 ghost use Rattle.message.specs.Encode.{encode, refusal_of};
 ghost use Rattle.message.specs.Meaning.{meaning};
 ghost use Rattle.circuit.specs.Circuits.{is_open, vacant};
 ghost use Rattle.circuit.specs.Laws.{told_of};
 ghost use Rattle.circuit.specs.Orders.{applied};
 ghost use Rattle.told.specs.Words.{number_of};
+ghost use Rattle.supervision.specs.Laws.{placed};
+ghost use Rattle.supervision.specs.Lending.{Performed, Suffices, lent};
 ghost use Rattle.supervision.specs.Moves.{where_named};
+ghost use Rattle.supervision.specs.Orders.{ordered};
 ghost use Rattle.supervision.specs.Steps.{settled_at, written_at, covers, Stood};
 ghost use Rattle.supervision.specs.Trunks.{cic_at};
 
@@ -124,4 +127,51 @@ pub(crate) fn sweep<P: Policy>(
         }
     }
     count
+}
+
+impl Trunk {
+    // Does a rule at the place of an equipped circuit, and sends a message.
+    pub(crate) fn perform_at<P: Policy>(
+        self,
+        place: Place,
+        rule: Rule,
+        message: Message<'_>,
+        table: &mut [Circuit],
+        policy: &mut P,
+        words: &mut [u32],
+        octets: &mut [u8],
+    ) -> (usize, usize)
+        requires enough { Suffices self.config P.Policy.room (lent table.old (P.Policy.held policy.old) words.old octets.old) }
+        requires inside { place.0 < length table.old }
+        requires equipped { (placed table.old place.0).equipped ≡ true }
+        requires writable { refusal_of (meaning message) ≡ None }
+        requires short { length (encode (meaning message)) ≤ 320 }
+        ensures { Performed self.config (ordered (λ k. nat_eq k place.0) rule (meaning message.entry)) result (lent table.old (P.Policy.held policy.old) words.old octets.old) (lent table.new (P.Policy.held policy.new) words.new octets.new) }
+    {
+        let count = visit(self, place, rule, table, policy, words, 0);
+        send(message, words, count, octets, 0)
+    }
+
+    // Does a rule at each circuit that a status names, and sends a message.
+    pub(crate) fn perform<P: Policy>(
+        self,
+        first: Place,
+        group: Group<'_>,
+        rule: Rule,
+        message: Message<'_>,
+        table: &mut [Circuit],
+        policy: &mut P,
+        words: &mut [u32],
+        octets: &mut [u8],
+    ) -> (usize, usize)
+        requires enough { Suffices self.config P.Policy.room (lent table.old (P.Policy.held policy.old) words.old octets.old) }
+        requires inside { first.0 + group.range.0 < length table.old }
+        requires few { group.range.0 < 32 }
+        requires writable { refusal_of (meaning message) ≡ None }
+        requires short { length (encode (meaning message)) ≤ 320 }
+        ensures { Performed self.config (ordered (covers first.0 group.entry.range.0 group.entry.status.now) rule (meaning message.entry)) result (lent table.old (P.Policy.held policy.old) words.old octets.old) (lent table.new (P.Policy.held policy.new) words.new octets.new) }
+    {
+        let count = sweep(self, first, group, rule, table, policy, words);
+        send(message, words, count, octets, 0)
+    }
 }

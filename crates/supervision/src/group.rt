@@ -1,15 +1,12 @@
 // Orders for circuits of a PCM system.
-ghost use Rattle.std.specs.Prelude.{◌≡◌, ◌+◌, ◌*◌, ◌<◌, ◌≤◌, length, IfOk, None};
-ghost use Rattle.message.specs.Encode.{encode, refusal_of};
-ghost use Rattle.message.specs.Meaning.{meaning, indicator_of};
+ghost use Rattle.std.specs.Prelude.{◌≡◌};
+ghost use Rattle.message.specs.Meaning.{indicator_of};
 ghost use Rattle.message.specs.Msg.{grouped};
-ghost use Rattle.supervision.specs.Laws.{Laws, GroupLaws, ResetAlike};
-ghost use Rattle.supervision.specs.Lending.{Done, lent, carried, counts_of};
-ghost use Rattle.supervision.specs.Orders.{ordered, groupwise, clearing, status_of, why_of, group_blocking, group_unblocking, group_resetting};
-ghost use Rattle.supervision.specs.Steps.{covers};
+ghost use Rattle.supervision.specs.Laws.{Outcome, GroupLaws, ResetAlike};
+ghost use Rattle.supervision.specs.Lending.{Suffices, lent};
+ghost use Rattle.supervision.specs.Orders.{groupwise, clearing, status_of, why_of, group_blocking, group_unblocking, group_resetting};
 ghost use Rattle.supervision.specs.Trunks.{first_of};
 
-use crate::effects::{send, sweep};
 use crate::judging::{judge, type_of};
 use crate::trunk::Trunk;
 use circuit::{Circuit, Reset, Rule};
@@ -22,32 +19,6 @@ use status::{Cic, Group, Range};
 const RANGE: Range = Range(30);
 
 impl Trunk {
-    // Does the rule at each circuit that a status names, and sends the message.
-    fn perform<P: Policy>(
-        self,
-        first: Place,
-        group: Group<'_>,
-        rule: Rule,
-        message: Message<'_>,
-        table: &mut [Circuit],
-        policy: &mut P,
-        words: &mut [u32],
-        octets: &mut [u8],
-    ) -> (usize, usize)
-        requires table { length table.old ≡ self.config.systems * 32 }
-        requires inside { first.0 + group.range.0 < length table.old }
-        requires words { (group.range.0 + 1) * 2 < length words.old }
-        requires octets { length (encode (meaning message)) ≤ length octets.old }
-        requires writable { refusal_of (meaning message) ≡ None }
-        requires short { length (encode (meaning message)) ≤ 320 }
-        ensures counts { result ≡ counts_of self.config (ordered (covers first.0 group.entry.range.0 group.entry.status.now) rule (meaning message.entry)) (lent table.old (P.Policy.held policy.old) words.old octets.old) }
-        ensures after { (lent table.new (P.Policy.held policy.new) words.new octets.new) ≡ carried self.config (ordered (covers first.0 group.entry.range.0 group.entry.status.now) rule (meaning message.entry)) (lent table.old (P.Policy.held policy.old) words.old octets.old) }
-        ensures within { (result.0 ≤ length words.old) × (result.1 ≤ length octets.old) }
-    {
-        let count = sweep(self, first, group, rule, table, policy, words);
-        send(message, words, count, octets, 0)
-    }
-
     // Does an order for the circuits of a mask and sends its message.
     fn order_group<P: Policy>(
         self,
@@ -61,13 +32,8 @@ impl Trunk {
         words: &mut [u32],
         octets: &mut [u8],
     ) -> Result<(usize, usize), Refusal>
-        requires table { length table.old ≡ self.config.systems * 32 }
-        requires places { length table.old ≤ P.Policy.room }
-        requires words { 96 ≤ length words.old }
-        requires octets { 320 ≤ length octets.old }
-        ensures done { Done self.config (groupwise self.config system mask rule (grouped (first_of self.config system) what (indicator_of why) 30 (status_of mask)) table.old) result (lent table.old (P.Policy.held policy.old) words.old octets.old) (lent table.new (P.Policy.held policy.new) words.new octets.new) }
-        ensures laws { Laws self.config (groupwise self.config system mask rule (grouped (first_of self.config system) what (indicator_of why) 30 (status_of mask)) table.old) (lent table.old (P.Policy.held policy.old) words.old octets.old) (lent table.new (P.Policy.held policy.new) words.new octets.new) }
-        ensures within { IfOk result (λ n. (n.0 ≤ length words.old) × (n.1 ≤ length octets.old)) }
+        requires enough { Suffices self.config P.Policy.room (lent table.old (P.Policy.held policy.old) words.old octets.old) }
+        ensures outcome { Outcome self.config (λ before. groupwise self.config system mask rule (grouped (first_of self.config system) what (indicator_of why) 30 (status_of mask)) before.table) result (lent table.old (P.Policy.held policy.old) words.old octets.old) (lent table.new (P.Policy.held policy.new) words.new octets.new) }
         ensures group { GroupLaws self.config system mask rule (groupwise self.config system mask rule (grouped (first_of self.config system) what (indicator_of why) 30 (status_of mask)) table.old) (lent table.old (P.Policy.held policy.old) words.old octets.old) (lent table.new (P.Policy.held policy.new) words.new octets.new) }
     {
         if system >= self.config.systems || mask % 2 == 1 {
@@ -94,13 +60,8 @@ impl Trunk {
         words: &mut [u32],
         octets: &mut [u8],
     ) -> Result<(usize, usize), Refusal>
-        requires table { length table.old ≡ self.config.systems * 32 }
-        requires places { length table.old ≤ P.Policy.room }
-        requires words { 96 ≤ length words.old }
-        requires octets { 320 ≤ length octets.old }
-        ensures done { Done self.config (clearing self.config system) result (lent table.old (P.Policy.held policy.old) words.old octets.old) (lent table.new (P.Policy.held policy.new) words.new octets.new) }
-        ensures laws { Laws self.config (clearing self.config system) (lent table.old (P.Policy.held policy.old) words.old octets.old) (lent table.new (P.Policy.held policy.new) words.new octets.new) }
-        ensures within { IfOk result (λ n. (n.0 ≤ length words.old) × (n.1 ≤ length octets.old)) }
+        requires enough { Suffices self.config P.Policy.room (lent table.old (P.Policy.held policy.old) words.old octets.old) }
+        ensures outcome { Outcome self.config (λ _. clearing self.config system) result (lent table.old (P.Policy.held policy.old) words.old octets.old) (lent table.new (P.Policy.held policy.new) words.new octets.new) }
         ensures alike { ResetAlike self.config system (clearing self.config system) (lent table.old (P.Policy.held policy.old) words.old octets.old) (lent table.new (P.Policy.held policy.new) words.new octets.new) }
     {
         if system >= self.config.systems {
@@ -128,12 +89,10 @@ impl Trunk {
         words: &mut [u32],
         octets: &mut [u8],
     ) -> Result<(usize, usize), Refusal>
-        ensures done { Done self.config (group_blocking self.config P.Policy.room kind system mask (lent table.old (P.Policy.held policy.old) words.old octets.old)) result (lent table.old (P.Policy.held policy.old) words.old octets.old) (lent table.new (P.Policy.held policy.new) words.new octets.new) }
-        ensures laws { Laws self.config (group_blocking self.config P.Policy.room kind system mask (lent table.old (P.Policy.held policy.old) words.old octets.old)) (lent table.old (P.Policy.held policy.old) words.old octets.old) (lent table.new (P.Policy.held policy.new) words.new octets.new) }
-        ensures within { IfOk result (λ n. (n.0 ≤ length words.old) × (n.1 ≤ length octets.old)) }
+        ensures outcome { Outcome self.config (group_blocking self.config P.Policy.room kind system mask) result (lent table.old (P.Policy.held policy.old) words.old octets.old) (lent table.new (P.Policy.held policy.new) words.new octets.new) }
         ensures group { GroupLaws self.config system mask (Rule.Block (why_of kind)) (group_blocking self.config P.Policy.room kind system mask (lent table.old (P.Policy.held policy.old) words.old octets.old)) (lent table.old (P.Policy.held policy.old) words.old octets.old) (lent table.new (P.Policy.held policy.new) words.new octets.new) }
     {
-        self.admit(P::most(), table.len(), words.len(), octets.len())?;
+        self.admit(table, policy, words, octets)?;
         let why = type_of(kind, mask)?;
         let rule = Rule::Block(why);
         self.order_group(
@@ -160,12 +119,10 @@ impl Trunk {
         words: &mut [u32],
         octets: &mut [u8],
     ) -> Result<(usize, usize), Refusal>
-        ensures done { Done self.config (group_unblocking self.config P.Policy.room kind system mask (lent table.old (P.Policy.held policy.old) words.old octets.old)) result (lent table.old (P.Policy.held policy.old) words.old octets.old) (lent table.new (P.Policy.held policy.new) words.new octets.new) }
-        ensures laws { Laws self.config (group_unblocking self.config P.Policy.room kind system mask (lent table.old (P.Policy.held policy.old) words.old octets.old)) (lent table.old (P.Policy.held policy.old) words.old octets.old) (lent table.new (P.Policy.held policy.new) words.new octets.new) }
-        ensures within { IfOk result (λ n. (n.0 ≤ length words.old) × (n.1 ≤ length octets.old)) }
+        ensures outcome { Outcome self.config (group_unblocking self.config P.Policy.room kind system mask) result (lent table.old (P.Policy.held policy.old) words.old octets.old) (lent table.new (P.Policy.held policy.new) words.new octets.new) }
         ensures group { GroupLaws self.config system mask (Rule.Unblock (why_of kind)) (group_unblocking self.config P.Policy.room kind system mask (lent table.old (P.Policy.held policy.old) words.old octets.old)) (lent table.old (P.Policy.held policy.old) words.old octets.old) (lent table.new (P.Policy.held policy.new) words.new octets.new) }
     {
-        self.admit(P::most(), table.len(), words.len(), octets.len())?;
+        self.admit(table, policy, words, octets)?;
         let why = type_of(kind, mask)?;
         let rule = Rule::Unblock(why);
         self.order_group(
@@ -190,12 +147,10 @@ impl Trunk {
         words: &mut [u32],
         octets: &mut [u8],
     ) -> Result<(usize, usize), Refusal>
-        ensures done { Done self.config (group_resetting self.config P.Policy.room system (lent table.old (P.Policy.held policy.old) words.old octets.old)) result (lent table.old (P.Policy.held policy.old) words.old octets.old) (lent table.new (P.Policy.held policy.new) words.new octets.new) }
-        ensures laws { Laws self.config (group_resetting self.config P.Policy.room system (lent table.old (P.Policy.held policy.old) words.old octets.old)) (lent table.old (P.Policy.held policy.old) words.old octets.old) (lent table.new (P.Policy.held policy.new) words.new octets.new) }
-        ensures within { IfOk result (λ n. (n.0 ≤ length words.old) × (n.1 ≤ length octets.old)) }
+        ensures outcome { Outcome self.config (group_resetting self.config P.Policy.room system) result (lent table.old (P.Policy.held policy.old) words.old octets.old) (lent table.new (P.Policy.held policy.new) words.new octets.new) }
         ensures alike { ResetAlike self.config system (group_resetting self.config P.Policy.room system (lent table.old (P.Policy.held policy.old) words.old octets.old)) (lent table.old (P.Policy.held policy.old) words.old octets.old) (lent table.new (P.Policy.held policy.new) words.new octets.new) }
     {
-        self.admit(P::most(), table.len(), words.len(), octets.len())?;
+        self.admit(table, policy, words, octets)?;
         self.clear(system, table, policy, words, octets)
     }
 }

@@ -2,16 +2,17 @@
 ghost use Rattle.std.specs.Prelude.{◌≡◌, ◌+◌, ◌-◌, ◌*◌, ◌<◌, ◌≤◌, true, not, ◌&&◌, ◌||◌, length, get_or, IfOk, Ok, OnOk, ◌==◌, nat_lt, slice_index_or};
 ghost use Rattle.circuit.specs.Circuits.{vacant};
 ghost use Rattle.circuit.specs.Laws.{allows};
+ghost use Rattle.supervision.specs.Lending.{Suffices, lent};
 ghost use Rattle.supervision.specs.Moves.{some_from};
-ghost use Rattle.supervision.specs.Orders.{circuit_of, cause_of, type_of};
+ghost use Rattle.supervision.specs.Orders.{admitted, circuit_of, cause_of, type_of};
 ghost use Rattle.refusal.specs.Refusals.{unless};
 ghost use Rattle.supervision.specs.Steps.{covers, passes};
-ghost use Rattle.refusal.specs.declared.reasons.Refusal.TheVariants.{Places, Buffers, Address, State};
+ghost use Rattle.refusal.specs.declared.reasons.Refusal.TheVariants.{Address, State};
 
 use crate::trunk::Trunk;
 use circuit::{Cause, Circuit, Rule};
 use message::BlockType;
-use policy::Place;
+use policy::{Place, Policy};
 use refusal::Refusal;
 use status::{Cic, Group};
 
@@ -45,21 +46,21 @@ pub(crate) fn at(place: Place, table: &[Circuit]) -> Circuit
 }
 
 impl Trunk {
-    // Whether table, policy and outputs suffice.
-    pub(crate) fn admit(
+    // Whether enough is lent.
+    pub(crate) fn admit<P: Policy>(
         self,
-        most: usize,
-        places: usize,
-        words: usize,
-        octets: usize,
+        table: &[Circuit],
+        policy: &P,
+        words: &[u32],
+        octets: &[u8],
     ) -> Result<(), Refusal>
-        ensures value { result ≡ unless (nat_lt most places) Places (unless (not (places == self.config.systems * 32) || (nat_lt words 96 || nat_lt octets 320)) Buffers (Ok tt)) }
-        ensures enough { OnOk result ((places ≤ most) × (places ≡ self.config.systems * 32) × (96 ≤ words) × (320 ≤ octets)) }
+        ensures value { result ≡ admitted self.config P.Policy.room (lent table.now (P.Policy.held policy.now) words.now octets.now) }
+        ensures enough { OnOk result (Suffices self.config P.Policy.room (lent table.now (P.Policy.held policy.now) words.now octets.now)) }
     {
-        if most < places {
+        if P::most() < table.len() {
             return Err(Refusal::Places);
         }
-        if places != self.config.systems * 32 || words < 96 || octets < 320 {
+        if table.len() != self.config.systems * 32 || words.len() < 96 || octets.len() < 320 {
             return Err(Refusal::Buffers);
         }
         Ok(())

@@ -12,6 +12,6 @@ returns g c =
     c.sweep-count.ensures.all (omega (arith, c.sweep-count.ensures.few)) c.send.ensures.words c.send.ensures.octets in
     record {
       counts = c.send.ensures.counts ∙ end.0;
-      after = end.1;
-      within = rw c.send.ensures.counts (omega (arith, c.sweep-count.ensures.few), omega (arith, c.requires.octets));
+      carries = end.1;
+      within = rw c.send.ensures.counts (omega (arith, c.sweep-count.ensures.few), omega (arith, c.requires.short));
     }
