@@ -4,7 +4,7 @@ ghost use Rattle.message.specs.Meaning.{indicator_of};
 ghost use Rattle.message.specs.Msg.{grouped};
 ghost use Rattle.supervision.specs.Laws.{Outcome, GroupLaws, ResetAlike};
 ghost use Rattle.supervision.specs.Lending.{Suffices, lent};
-ghost use Rattle.supervision.specs.Orders.{groupwise, clearing, status_of, why_of, group_blocking, group_unblocking, group_resetting};
+ghost use Rattle.supervision.specs.Orders.{groupwise, typed, clearing, status_of, why_of, group_blocking, group_unblocking, group_resetting};
 ghost use Rattle.supervision.specs.Trunks.{first_of};
 
 use crate::judging::{judge, type_of};
@@ -78,6 +78,38 @@ impl Trunk {
         Ok(self.perform(first, group, rule, message, table, policy, words, octets))
     }
 
+    // Does an order of a type for the circuits of a mask, by the rule for that type.
+    fn order_typed<P: Policy, F: Fn(BlockType) -> Rule>(
+        self,
+        rule: F,
+        what: Grouped,
+        kind: u8,
+        system: usize,
+        mask: u32,
+        table: &mut [Circuit],
+        policy: &mut P,
+        words: &mut [u32],
+        octets: &mut [u8],
+    ) -> Result<(usize, usize), Refusal>
+        requires { F.IsAlwaysCallable rule }
+        ensures outcome { (of : BlockType → Rule) → ((why : BlockType) (r : Rule) → F.post rule why r → r ≡ of why) → Outcome self.config (typed of what self.config P.Policy.room kind system mask) result (lent table.old (P.Policy.held policy.old) words.old octets.old) (lent table.new (P.Policy.held policy.new) words.new octets.new) }
+        ensures group { (of : BlockType → Rule) → ((why : BlockType) (r : Rule) → F.post rule why r → r ≡ of why) → GroupLaws self.config system mask (of (why_of kind)) (typed of what self.config P.Policy.room kind system mask (lent table.old (P.Policy.held policy.old) words.old octets.old)) (lent table.old (P.Policy.held policy.old) words.old octets.old) (lent table.new (P.Policy.held policy.new) words.new octets.new) }
+    {
+        self.admit(table, policy, words, octets)?;
+        let why = type_of(kind, mask)?;
+        self.order_group(
+            system,
+            mask,
+            rule(why),
+            what,
+            why,
+            table,
+            policy,
+            words,
+            octets,
+        )
+    }
+
     // Blocks the circuits of a mask: type 0 for maintenance, 1 for hardware, which ends their calls.
     pub fn group_block<P: Policy>(
         self,
@@ -92,15 +124,12 @@ impl Trunk {
         ensures outcome { Outcome self.config (group_blocking self.config P.Policy.room kind system mask) result (lent table.old (P.Policy.held policy.old) words.old octets.old) (lent table.new (P.Policy.held policy.new) words.new octets.new) }
         ensures group { GroupLaws self.config system mask (Rule.Block (why_of kind)) (group_blocking self.config P.Policy.room kind system mask (lent table.old (P.Policy.held policy.old) words.old octets.old)) (lent table.old (P.Policy.held policy.old) words.old octets.old) (lent table.new (P.Policy.held policy.new) words.new octets.new) }
     {
-        self.admit(table, policy, words, octets)?;
-        let why = type_of(kind, mask)?;
-        let rule = Rule::Block(why);
-        self.order_group(
+        self.order_typed(
+            Rule::Block,
+            Grouped::Cgb,
+            kind,
             system,
             mask,
-            rule,
-            Grouped::Cgb,
-            why,
             table,
             policy,
             words,
@@ -122,15 +151,12 @@ impl Trunk {
         ensures outcome { Outcome self.config (group_unblocking self.config P.Policy.room kind system mask) result (lent table.old (P.Policy.held policy.old) words.old octets.old) (lent table.new (P.Policy.held policy.new) words.new octets.new) }
         ensures group { GroupLaws self.config system mask (Rule.Unblock (why_of kind)) (group_unblocking self.config P.Policy.room kind system mask (lent table.old (P.Policy.held policy.old) words.old octets.old)) (lent table.old (P.Policy.held policy.old) words.old octets.old) (lent table.new (P.Policy.held policy.new) words.new octets.new) }
     {
-        self.admit(table, policy, words, octets)?;
-        let why = type_of(kind, mask)?;
-        let rule = Rule::Unblock(why);
-        self.order_group(
+        self.order_typed(
+            Rule::Unblock,
+            Grouped::Cgu,
+            kind,
             system,
             mask,
-            rule,
-            Grouped::Cgu,
-            why,
             table,
             policy,
             words,
