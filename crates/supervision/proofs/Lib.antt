@@ -8,6 +8,7 @@ pub mod Hearing
 pub mod Keeping
 pub mod Masks
 pub mod Naming
+pub mod Passing
 pub mod Sending
 pub mod Settling
 pub mod Some

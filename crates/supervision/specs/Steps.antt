@@ -4,9 +4,7 @@ use Rattle.status.specs.Bits.{is_named}
 use Rattle.told.specs.Words.{number_of}
 use Rattle.circuit.specs.declared.record.Circuit.{Circuit}
 use Rattle.circuit.specs.declared.rules.Change.{Change}
-use Rattle.circuit.specs.Laws.{allows}
-use Rattle.supervision.specs.declared.judging.Test.{Test}
-use Rattle.supervision.specs.declared.judging.Test.TheVariants.{Equipped, Allowed}
+use Rattle.supervision.specs.declared.slots.Slots.{Slots}
 use Rattle.supervision.specs.declared.trunk.Config.{Config}
 use Rattle.supervision.specs.Lending.{over, settled}
 use Rattle.supervision.specs.Moves.{each_from, told_from}
@@ -27,6 +25,10 @@ written_at (x ∷ xs) n w = written_at xs (suc n) (slice_set w n x)
 abbrev pub covers : ℕ → ℕ → List ℕ → ℕ → Bool
 covers first r status k = nat_le first k && is_named r status (k - first)
 
+-- the places that slots name
+abbrev pub named_by : Slots → ℕ → Bool
+named_by slots = covers slots.first.0 slots.group.range.0 slots.group.status.now
+
 -- what is left once each circuit of a table T is changed by its place: the table, the set, the words, and their count
 abbrev pub Stood : Config → (ℕ → Circuit → Change) → List Circuit → List Bool → List ℕ → List Circuit → List Bool → List ℕ → ℕ → Type 0
 Stood t f T H W table held words n =
@@ -34,8 +36,3 @@ Stood t f T H W table held words n =
     × (held ≡ settled H T (each_from f 0 T))
     × (words ≡ over (map number_of (told_from t f 0 T)) W)
     × (n ≡ length (told_from t f 0 T))
-
--- what the judge asks of a named circuit
-abbrev pub passes : Test → Circuit → Bool
-passes Equipped c = c.equipped
-passes (Allowed rule) c = allows rule c

@@ -10,14 +10,15 @@ ghost use Rattle.supervision.specs.Laws.{placed};
 ghost use Rattle.supervision.specs.Lending.{Performed, Suffices, lent};
 ghost use Rattle.supervision.specs.Moves.{where_named};
 ghost use Rattle.supervision.specs.Orders.{ordered};
-ghost use Rattle.supervision.specs.Steps.{settled_at, written_at, covers, Stood};
+ghost use Rattle.supervision.specs.Steps.{settled_at, written_at, named_by, Stood};
 ghost use Rattle.supervision.specs.Trunks.{cic_at};
 
+use crate::slots::Slots;
 use crate::trunk::Trunk;
 use circuit::{Change, Circuit, Rule};
 use message::{Message, write};
 use policy::{Place, Policy};
-use status::{Cic, Group};
+use status::Cic;
 use told::Word;
 
 // Writes a record whole, and offers its place if it opened, or withdraws it if it closed.
@@ -103,26 +104,25 @@ pub(crate) fn send(
     (count + 1, at + length)
 }
 
-// Does the rule at each equipped place that a status names, from `first` on; the count of words.
+// Does the rule at each equipped place that slots name; the count of words.
 pub(crate) fn sweep<P: Policy>(
     trunk: Trunk,
-    first: Place,
-    group: Group<'_>,
+    slots: Slots<'_>,
     rule: Rule,
     table: &mut [Circuit],
     policy: &mut P,
     words: &mut [u32],
 ) -> usize
-    requires inside { first.0 + group.range.0 < length table.old }
+    requires inside { slots.first.0 + slots.group.range.0 < length table.old }
     requires table { length table.old ≤ trunk.config.systems * 32 }
-    requires room { (group.range.0 + 1) * 2 ≤ length words.old }
-    ensures all { Stood trunk.config (where_named (covers first.0 group.entry.range.0 group.entry.status.now) (λ _. applied rule)) table.old (P.Policy.held policy.old) words.old table.new (P.Policy.held policy.new) words.new result }
-    ensures few { result ≤ (group.entry.range.0 + 1) * 2 }
+    requires room { (slots.group.range.0 + 1) * 2 ≤ length words.old }
+    ensures all { Stood trunk.config (where_named (named_by slots.entry) (λ _. applied rule)) table.old (P.Policy.held policy.old) words.old table.new (P.Policy.held policy.new) words.new result }
+    ensures few { result ≤ (slots.entry.group.range.0 + 1) * 2 }
 {
     let mut count = 0;
-    for n in 0..group.range.0 as usize + 1 {
-        let place = Place(first.0 + n);
-        if group.range.is_set(group.status, n as u8) && table[place.0].equipped {
+    for n in 0..slots.group.range.0 as usize + 1 {
+        let place = Place(slots.first.0 + n);
+        if slots.group.range.is_set(slots.group.status, n as u8) && table[place.0].equipped {
             count = visit(trunk, place, rule, table, policy, words, count);
         }
     }
@@ -152,11 +152,10 @@ impl Trunk {
         send(message, words, count, octets, 0)
     }
 
-    // Does a rule at each circuit that a status names, and sends a message.
+    // Does a rule at each circuit that slots name, and sends a message.
     pub(crate) fn perform<P: Policy>(
         self,
-        first: Place,
-        group: Group<'_>,
+        slots: Slots<'_>,
         rule: Rule,
         message: Message<'_>,
         table: &mut [Circuit],
@@ -165,13 +164,13 @@ impl Trunk {
         octets: &mut [u8],
     ) -> (usize, usize)
         requires enough { Suffices self.config P.Policy.room (lent table.old (P.Policy.held policy.old) words.old octets.old) }
-        requires inside { first.0 + group.range.0 < length table.old }
-        requires few { group.range.0 < 32 }
+        requires inside { slots.first.0 + slots.group.range.0 < length table.old }
+        requires few { slots.group.range.0 < 32 }
         requires writable { refusal_of (meaning message) ≡ None }
         requires short { length (encode (meaning message)) ≤ 320 }
-        ensures { Performed self.config (ordered (covers first.0 group.entry.range.0 group.entry.status.now) rule (meaning message.entry)) result (lent table.old (P.Policy.held policy.old) words.old octets.old) (lent table.new (P.Policy.held policy.new) words.new octets.new) }
+        ensures { Performed self.config (ordered (named_by slots.entry) rule (meaning message.entry)) result (lent table.old (P.Policy.held policy.old) words.old octets.old) (lent table.new (P.Policy.held policy.new) words.new octets.new) }
     {
-        let count = sweep(self, first, group, rule, table, policy, words);
+        let count = sweep(self, slots, rule, table, policy, words);
         send(message, words, count, octets, 0)
     }
 }

@@ -7,7 +7,8 @@ ghost use Rattle.supervision.specs.Lending.{Suffices, lent};
 ghost use Rattle.supervision.specs.Orders.{groupwise, typed, clearing, status_of, why_of, group_blocking, group_unblocking, group_resetting};
 ghost use Rattle.supervision.specs.Trunks.{first_of};
 
-use crate::judging::{judge, type_of};
+use crate::judging::type_of;
+use crate::slots::Slots;
 use crate::trunk::Trunk;
 use circuit::{Circuit, Reset, Rule};
 use message::{BlockType, Grouped, Message};
@@ -45,10 +46,11 @@ impl Trunk {
             range: RANGE,
             status: &status,
         };
-        judge(first, group, rule, table)?;
+        let slots = Slots { first, group };
+        slots.judge(rule, table)?;
         let cic = Cic(self.config.first.0 + first.0 as u16);
         let message = Message::Grouped(cic, what, why, group);
-        Ok(self.perform(first, group, rule, message, table, policy, words, octets))
+        Ok(self.perform(slots, rule, message, table, policy, words, octets))
     }
 
     // Resets the circuits of a PCM system and sends the message.
@@ -73,9 +75,10 @@ impl Trunk {
             range: RANGE,
             status: &every,
         };
+        let slots = Slots { first, group };
         let rule = Rule::Reset(Reset::Group);
         let message = Message::GroupReset(Cic(self.config.first.0 + first.0 as u16), RANGE);
-        Ok(self.perform(first, group, rule, message, table, policy, words, octets))
+        Ok(self.perform(slots, rule, message, table, policy, words, octets))
     }
 
     // Does an order of a type for the circuits of a mask, by the rule for that type.

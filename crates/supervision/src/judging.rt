@@ -1,12 +1,10 @@
 // What an order is refused for, before anything is changed.
-ghost use Rattle.std.specs.Prelude.{◌≡◌, ◌+◌, ◌-◌, ◌*◌, ◌<◌, ◌≤◌, true, not, ◌&&◌, ◌||◌, length, get_or, IfOk, Ok, OnOk, ◌==◌, nat_lt, slice_index_or};
+ghost use Rattle.std.specs.Prelude.{◌≡◌, ◌+◌, ◌-◌, ◌*◌, ◌<◌, ◌≤◌, true, not, ◌&&◌, length, get_or, IfOk, Ok, OnOk, ◌==◌, nat_lt, slice_index_or};
 ghost use Rattle.circuit.specs.Circuits.{vacant};
 ghost use Rattle.circuit.specs.Laws.{allows};
 ghost use Rattle.supervision.specs.Lending.{Suffices, lent};
-ghost use Rattle.supervision.specs.Moves.{some_from};
 ghost use Rattle.supervision.specs.Orders.{admitted, circuit_of, cause_of, type_of};
 ghost use Rattle.refusal.specs.Refusals.{unless};
-ghost use Rattle.supervision.specs.Steps.{covers, passes};
 ghost use Rattle.refusal.specs.declared.reasons.Refusal.TheVariants.{Address, State};
 
 use crate::trunk::Trunk;
@@ -14,25 +12,7 @@ use circuit::{Cause, Circuit, Rule};
 use message::BlockType;
 use policy::{Place, Policy};
 use refusal::Refusal;
-use status::{Cic, Group};
-
-// What the named circuits of an order have to be.
-#[derive(Clone, Copy)]
-pub enum Test {
-    Equipped,
-    Allowed(Rule),
-}
-
-impl Test {
-    fn passes(self, circuit: Circuit) -> bool
-        ensures { result ≡ passes self circuit }
-    {
-        match self {
-            Test::Equipped => circuit.equipped,
-            Test::Allowed(rule) => rule.allows(circuit),
-        }
-    }
-}
+use status::Cic;
 
 // The circuit at a place; past the table there is none that is equipped.
 pub(crate) fn at(place: Place, table: &[Circuit]) -> Circuit
@@ -112,36 +92,4 @@ pub(crate) fn type_of(kind: u8, mask: u32) -> Result<BlockType, Refusal>
         1 => Ok(BlockType::Hardware),
         _ => Err(Refusal::Argument),
     }
-}
-
-// Whether each circuit that a status names passes the test.
-fn all_pass(first: Place, group: Group<'_>, test: Test, table: &[Circuit]) -> bool
-    requires { first.0 + group.range.0 < length table.now }
-    ensures { result ≡ not (some_from (λ k c. covers first.0 group.entry.range.0 group.entry.status.now k && not (passes test c)) 0 table.now) }
-{
-    for n in 0..group.range.0 as usize + 1 {
-        if group.range.is_set(group.status, n as u8) && !test.passes(table[first.0 + n]) {
-            return false;
-        }
-    }
-    true
-}
-
-// Whether an order may name the circuits that a status names.
-pub(crate) fn judge(
-    first: Place,
-    group: Group<'_>,
-    rule: Rule,
-    table: &[Circuit],
-) -> Result<(), Refusal>
-    requires { first.0 + group.range.0 < length table.now }
-    ensures { result ≡ unless (some_from (λ k c. covers first.0 group.entry.range.0 group.entry.status.now k && not c.equipped) 0 table.now) Address (unless (some_from (λ k c. covers first.0 group.entry.range.0 group.entry.status.now k && not (allows rule c)) 0 table.now) State (Ok tt)) }
-{
-    if !all_pass(first, group, Test::Equipped, table) {
-        return Err(Refusal::Address);
-    }
-    if !all_pass(first, group, Test::Allowed(rule), table) {
-        return Err(Refusal::State);
-    }
-    Ok(())
 }

@@ -12,27 +12,27 @@ use Rattle.supervision.proofs.effects.sweep.Goals.{then-is_set+then-table-place,
 
 pub loop-n-init : goal.loop-n-init
 loop-n-init g c =
-    let first = c.args.first.0 in
-    let named = covers first c.args.group.range.0 c.args.group.status.now in
+    let first = c.args.slots.first.0 in
+    let named = covers first c.args.slots.group.range.0 c.args.slots.group.status.now in
     let f = where_named named (λ _. applied c.args.rule) in (
       rw (add-zero first)
           (stands_from c.args.trunk.config f first c.args.table.now (g.P.Policy.held c.args.policy.now) c.args.words.now (omega arith)
-          (λ j a b x. unnamed named (λ _. applied c.args.rule) j x (covers_below first c.args.group.range.0 c.args.group.status.now j (omega arith)))),
+          (λ j a b x. unnamed named (λ _. applied c.args.rule) j x (covers_below first c.args.slots.group.range.0 c.args.slots.group.status.now j (omega arith)))),
       omega arith,
     )
 
 pub loop-n-preserved : goal.loop-n-preserved
 loop-n-preserved g c =
-    let first = c.args.first.0 in
+    let first = c.args.slots.first.0 in
     let k = first + c.loop-n.n in
-    let named = covers first c.args.group.range.0 c.args.group.status.now in
+    let named = covers first c.args.slots.group.range.0 c.args.slots.group.status.now in
     let rule = λ (_ : ℕ). applied c.args.rule in
     let f = where_named named rule in
     let x = get_or c.loop-n.table k vacant in
     let W = c.args.words.now in
     let in-range : k < length c.args.table.now = omega arith in
     let few : length (told_from c.args.trunk.config f 0 (take k c.args.table.now)) ≤ c.loop-n.n * 2 = rw (← c.loop-n.invariant.0.3) c.loop-n.invariant.1 in
-    let is : c.is_set.result ≡ named k = c.is_set.ensures ∙ sym (covers_in first c.args.group.range.0 c.args.group.status.now c.loop-n.n) in
+    let is : c.is_set.result ≡ named k = c.is_set.ensures ∙ sym (covers_in first c.args.slots.group.range.0 c.args.slots.group.status.now c.loop-n.n) in
     rw (← add_assoc first c.loop-n.n 1)
     (elim c.if-is_set.branch [
       | then-is_set+then-table-place w ↦
@@ -63,13 +63,13 @@ loop-n-preserved g c =
 
 pub returns : goal.returns
 returns g c =
-    let first = c.args.first.0 in
-    let named = covers first c.args.group.range.0 c.args.group.status.now in
+    let first = c.args.slots.first.0 in
+    let named = covers first c.args.slots.group.range.0 c.args.slots.group.status.now in
     let f = where_named named (λ _. applied c.args.rule) in
     record {
       all = stands_all c.args.trunk.config f (first + c.loop-n.n) c.args.table.now (g.P.Policy.held c.args.policy.now) c.args.words.now
           c.loop-n.table (g.P.Policy.held c.loop-n.policy) c.loop-n.words c.loop-n.count
           c.loop-n.invariant.0 (omega arith)
-          (λ j a x. unnamed named (λ _. applied c.args.rule) j x (covers_past first c.args.group.range.0 c.args.group.status.now j (omega arith)));
+          (λ j a x. unnamed named (λ _. applied c.args.rule) j x (covers_past first c.args.slots.group.range.0 c.args.slots.group.status.now j (omega arith)));
       few = omega arith;
     }
