@@ -1,5 +1,5 @@
 -- The steps that the code takes, one place or one word at a time.
-use Rattle.std.specs.Prelude.{◌≡◌, ℕ, suc, ◌-◌, Bool, true, false, ◌&&◌, List, [], ◌∷◌, map, length, nat_le, slice_set}
+use Rattle.std.specs.Prelude.{◌≡◌, ℕ, ◌-◌, Bool, true, false, ◌&&◌, List, map, length, nat_le, slice_set}
 use Rattle.status.specs.Bits.{is_named}
 use Rattle.told.specs.Words.{number_of}
 use Rattle.circuit.specs.declared.record.Circuit.{Circuit}
@@ -15,11 +15,6 @@ settled_at h k true true = h
 settled_at h k true false = slice_set h k false
 settled_at h k false true = slice_set h k true
 settled_at h k false false = h
-
--- words written one after the other, from the place n on
-abbrev pub written_at : List ℕ → ℕ → List ℕ → List ℕ
-written_at [] n w = w
-written_at (x ∷ xs) n w = written_at xs (suc n) (slice_set w n x)
 
 -- the places from `first` on that a status of the range r names
 abbrev pub covers : ℕ → ℕ → List ℕ → ℕ → Bool

@@ -14,7 +14,7 @@ use circuit::{Circuit, Reset, Rule};
 use message::{BlockType, Grouped, Message};
 use policy::{Place, Policy};
 use refusal::Refusal;
-use status::{Cic, Group, Range};
+use status::{Group, Range};
 
 // Our group messages count from time slot 1, with this range.
 const RANGE: Range = Range(30);
@@ -48,7 +48,7 @@ impl Trunk {
         };
         let slots = Slots { first, group };
         slots.judge(rule, table)?;
-        let cic = Cic(self.config.first.0 + first.0 as u16);
+        let cic = self.cic_at(first);
         let message = Message::Grouped(cic, what, why, group);
         Ok(self.perform(slots, rule, message, table, policy, words, octets))
     }
@@ -77,7 +77,7 @@ impl Trunk {
         };
         let slots = Slots { first, group };
         let rule = Rule::Reset(Reset::Group);
-        let message = Message::GroupReset(Cic(self.config.first.0 + first.0 as u16), RANGE);
+        let message = Message::GroupReset(self.cic_at(first), RANGE);
         Ok(self.perform(slots, rule, message, table, policy, words, octets))
     }
 

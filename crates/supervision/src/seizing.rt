@@ -13,7 +13,6 @@ use circuit::{Circuit, Rule};
 use message::{CallKind, Message};
 use policy::{Place, Policy};
 use refusal::Refusal;
-use status::Cic;
 
 // The place of the policy's choice, which has to be open.
 fn pick<P: Policy>(table: &[Circuit], policy: &mut P) -> Result<Place, Refusal>
@@ -47,7 +46,7 @@ impl Trunk {
             return Err(Refusal::Argument);
         }
         let place = pick(table, policy)?;
-        let cic = Cic(self.config.first.0 + place.0 as u16);
+        let cic = self.cic_at(place);
         let message = Message::Call(cic, CallKind::Iam, body);
         Ok(self.perform_at(place, Rule::Seize, message, table, policy, words, octets))
     }

@@ -3,6 +3,7 @@ ghost use Rattle.std.specs.Prelude.{◌≡◌, ℕ, ◌+◌, ◌<◌, Bool, not,
 ghost use Rattle.circuit.specs.Laws.{allows};
 ghost use Rattle.refusal.specs.Refusals.{unless};
 ghost use Rattle.refusal.specs.declared.reasons.Refusal.TheVariants.{Address, State};
+ghost use Rattle.status.specs.Bits.{is_named};
 ghost use Rattle.supervision.specs.Moves.{some_from};
 ghost use Rattle.supervision.specs.Steps.{named_by};
 
@@ -19,17 +20,23 @@ pub(crate) struct Slots<'a> {
 }
 
 impl Slots<'_> {
+    // Whether they name the n-th circuit of the range.
+    pub(crate) fn names(self, n: u8) -> bool
+        ensures { result ≡ is_named self.entry.group.range.0 self.entry.group.status.now n }
+    {
+        self.group.range.is_set(self.group.status, n)
+    }
+
     // Whether each named circuit passes a test.
     fn all<F: Fn(Circuit) -> bool>(self, passes: F, table: &[Circuit]) -> bool
         requires callable { F.IsAlwaysCallable passes }
         requires inside { self.first.0 + self.group.range.0 < length table.now }
         ensures { (p : Circuit → Bool) → ((c : Circuit) (r : Bool) → F.post passes c r → r ≡ p c) → result ≡ not (some_from (λ k c. named_by self.entry k && not (p c)) 0 table.now) }
     {
-        let Group { range, status } = self.group;
-        table[self.first.0..=self.first.0 + range.0 as usize]
+        table[self.first.0..=self.first.0 + self.group.range.0 as usize]
             .iter()
             .enumerate()
-            .all(|(n, circuit)| !range.is_set(status, n as u8) || passes(*circuit))
+            .all(|(n, circuit)| !self.names(n as u8) || passes(*circuit))
     }
 
     // Whether an order may name them.

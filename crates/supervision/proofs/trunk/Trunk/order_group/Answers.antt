@@ -48,7 +48,7 @@ returns g c =
     outcome_of t (λ (b : Lent). groupwise t c.args.system c.args.mask c.args.rule msg b.table) m c.perform.result before after
     (rw (g.met.P.Policy.sized c.args.policy.now) c.requires.enough.places)
     (groupwise_allowed t c.args.system c.args.mask c.args.rule msg T m a) a
-    (subst (λ (x : Msg). Performed t (ordered named c.args.rule x) c.perform.result before after) sent c.perform.ensures) in
+    (subst (λ (x : Msg). Performed t (ordered named c.args.rule x) c.perform.result before after) sent (rw c.cic_at-cic.ensures at c.perform.ensures)) in
     record {
       outcome = outcome;
       group = group_order t c.args.system c.args.mask c.args.rule msg before after (Ok c.perform.result) outcome.done;

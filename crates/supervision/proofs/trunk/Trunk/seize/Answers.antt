@@ -20,4 +20,4 @@ returns g c =
     (seizure_accepted t body v.0 c.in_ok-place.place c.perform_at.result before after v.1 v.2
     (rw (g.met.P.Policy.sized c.args.policy.now) c.in_ok-admit.ensures.enough.places)
     c.in_ok-place.ensures.found.1
-    (rw c.in_ok-place.ensures.same at c.perform_at.ensures))
+    (rw (c.in_ok-place.ensures.same, c.cic_at-cic.ensures) at c.perform_at.ensures))
