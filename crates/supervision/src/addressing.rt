@@ -11,13 +11,8 @@ impl Trunk {
     pub fn place(self, cic: Cic) -> Option<Place>
         ensures { result ≡ place_of self.config cic }
     {
-        let first = self.config.first.0 as usize;
-        let number = cic.0 as usize;
-        if number >= first && number < first + self.config.systems * 32 {
-            Some(Place(number - first))
-        } else {
-            None
-        }
+        let place = cic.0.checked_sub(self.config.first.0)? as usize;
+        (place < self.config.systems * 32).then_some(Place(place))
     }
 
     // The CIC of a place, if the table has it.

@@ -14,17 +14,6 @@ use policy::{Place, Policy};
 use refusal::Refusal;
 use status::Cic;
 
-// The circuit at a place; past the table there is none that is equipped.
-pub(crate) fn at(place: Place, table: &[Circuit]) -> Circuit
-    ensures value { result ≡ slice_index_or table.now place.0 vacant }
-    ensures within { result.equipped ≡ true → place.0 < length table.now }
-{
-    if place.0 < table.len() {
-        return table[place.0];
-    }
-    Circuit::fresh(false)
-}
-
 impl Trunk {
     // Whether enough is lent.
     pub(crate) fn admit<P: Policy>(
@@ -48,15 +37,12 @@ impl Trunk {
 
     // The place of a circuit that an order may name.
     pub(crate) fn find(self, cic: Cic, rule: Rule, table: &[Circuit]) -> Result<Place, Refusal>
+        requires { length table.now ≡ self.config.systems * 32 }
         ensures value { result ≡ unless (not (circuit_of self.config cic table.now).equipped) Address (unless (not (allows rule (circuit_of self.config cic table.now))) State (Ok (record { 0 = cic.0 - self.config.first.0 }))) }
         ensures found { IfOk result (λ p. (self.config.first.0 ≤ cic.0) × (p.0 < length table.now) × ((get_or table.now p.0 vacant).equipped ≡ true)) }
     {
-        let first = self.config.first.0;
-        if cic.0 < first {
-            return Err(Refusal::Address);
-        }
-        let place = Place((cic.0 - first) as usize);
-        let circuit = at(place, table);
+        let place = self.place(cic).ok_or(Refusal::Address)?;
+        let circuit = table[place.0];
         if !circuit.equipped {
             return Err(Refusal::Address);
         }

@@ -18,12 +18,7 @@ fn is_equipment(word: u32) -> bool
 fn are_equipment(equipment: &[u32]) -> bool
     ensures { result ≡ are_equipment equipment.now }
 {
-    for word in equipment {
-        if !is_equipment(*word) {
-            return false;
-        }
-    }
-    true
+    equipment.iter().all(|word| is_equipment(*word))
 }
 
 // Whether these are the numbers of a trunk.
@@ -45,10 +40,8 @@ fn fill(equipment: &[u32], table: &mut [Circuit])
     requires { length table.old ≡ length equipment.now * 32 }
     ensures { table.new ≡ open_table equipment.now }
 {
-    for (system, word) in equipment.iter().enumerate() {
-        for slot in 0..32u32 {
-            table[system * 32 + slot as usize] = Circuit::fresh((*word >> slot) % 2 == 1);
-        }
+    for (place, circuit) in table.iter_mut().enumerate() {
+        *circuit = Circuit::fresh((equipment[place / 32] >> (place % 32)) % 2 == 1);
     }
 }
 

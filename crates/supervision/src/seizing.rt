@@ -7,7 +7,6 @@ ghost use Rattle.supervision.specs.Laws.{placed};
 ghost use Rattle.supervision.specs.Lending.{lent};
 ghost use Rattle.supervision.specs.Seizing.{seizable, Seized};
 
-use crate::judging::at;
 use crate::trunk::Trunk;
 use circuit::{Circuit, Rule};
 use message::{CallKind, Message};
@@ -20,10 +19,8 @@ fn pick<P: Policy>(table: &[Circuit], policy: &mut P) -> Result<Place, Refusal>
     ensures value { (choice : Maybe ChosenPlace) × Chosen (P.Policy.held policy.old) choice × (result ≡ seizable choice table.now) }
     ensures found { IfOk result (λ p. (p.0 < length table.now) × (is_open (placed table.now p.0) ≡ true)) }
 {
-    let Some(place) = policy.choose() else {
-        return Err(Refusal::NoneOpen);
-    };
-    if !at(place, table).is_open() {
+    let place = policy.choose().ok_or(Refusal::NoneOpen)?;
+    if !table.get(place.0).is_some_and(|circuit| circuit.is_open()) {
         return Err(Refusal::Choice);
     }
     Ok(place)
@@ -42,7 +39,7 @@ impl Trunk {
         ensures { Seized self.config P.Policy.room body.now result (lent table.old (P.Policy.held policy.old) words.old octets.old) (lent table.new (P.Policy.held policy.new) words.new octets.new) }
     {
         self.admit(table, policy, words, octets)?;
-        if body.len() < 1 || body.len() > 256 {
+        if body.is_empty() || body.len() > 256 {
             return Err(Refusal::Argument);
         }
         let place = pick(table, policy)?;
