@@ -1,7 +1,7 @@
 -- What is written from the start of a list, and more after it.
-use Rattle.std.proofs.Common.{◌≡◌, ℕ, suc, ◌+◌, ◌-◌, ◌<◌, ◌≤◌, List, [], ◌∷◌, ◌++◌, length, get_or, take, drop, set, refl, ap, length-drop, arith}
-use borrow.Rule.Slice.PartMut.{put_mid}
-use Rattle.std.proofs.lemmas.List.{append-nil, drop_all, take_rest}
+use Rattle.std.proofs.Common.{◌≡◌, ℕ, suc, ◌+◌, ◌-◌, ◌<◌, ◌≤◌, List, [], ◌∷◌, ◌++◌, length, get_or, take, drop, set, sym, refl, ap, ◌∙◌, length-drop, arith}
+use borrow.Rule.Slice.PartMut.{post_of, put_mid}
+use Rattle.std.proofs.lemmas.List.{append-nil, drop_all, get_or_append_left, get_or-append_right, length-take-le, set-append_left, set-append_right, take_rest}
 use Rattle.supervision.specs.Lending.{over}
 
 -- one more
@@ -50,3 +50,19 @@ part_at a xs w ys l e =
 -- the first
 pub over_one : {X : Type 0} (x : X) (w : List X) → 1 ≤ length w → set w 0 x ≡ over (x ∷ []) w
 over_one x w l = over_push [] w x (omega arith)
+
+-- the part's own places, in the whole
+pub get_in_part : {X : Type 0} (a k : ℕ) (w ys : List X) (j : ℕ) (d : X) → a ≤ length w → j < length ys
+    → get_or (put_mid a k w ys) (a + j) d ≡ get_or ys j d
+get_in_part a k w ys j d l h =
+    let size : length (take a w) ≡ a = length-take-le a w l in
+    let here : a + j - a ≡ j = omega arith in
+    get_or-append_right (take a w) (ys ++ post_of a k w) a (a + j) d size (omega arith) ∙ rw here (get_or_append_left ys (post_of a k w) d j h)
+
+pub set_in_part : {X : Type 0} (a k : ℕ) (w ys : List X) (j : ℕ) (x : X) → a ≤ length w → j < length ys
+    → put_mid a k w (set ys j x) ≡ set (put_mid a k w ys) (a + j) x
+set_in_part a k w ys j x l h =
+    let size : length (take a w) ≡ a = length-take-le a w l in
+    let here : a + j - a ≡ j = omega arith in
+    let moved : set (ys ++ post_of a k w) (a + j - a) x ≡ set ys j x ++ post_of a k w = rw here (set-append_left ys (post_of a k w) j x h) in
+    sym (set-append_right (take a w) (ys ++ post_of a k w) a (a + j) x size (omega arith) ∙ ap (λ t. take a w ++ t) moved)

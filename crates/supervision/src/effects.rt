@@ -29,11 +29,10 @@ fn put<P: Policy>(place: Place, new: Circuit, circuit: &mut Circuit, policy: &mu
     let was = circuit.is_open();
     let is = new.is_open();
     *circuit = new;
-    if is && !was {
-        policy.offer(place);
-    }
-    if was && !is {
-        policy.withdraw(place);
+    match (was, is) {
+        (false, true) => policy.offer(place),
+        (true, false) => policy.withdraw(place),
+        _ => {}
     }
 }
 
@@ -108,11 +107,10 @@ fn sweep<P: Policy>(
     ensures few { result ≤ (slots.entry.group.range.0 + 1) * 2 }
 {
     let mut count = 0;
-    // by number, as of what is written through an adapter of `iter_mut` nothing is known after it
-    for n in 0..slots.group.range.0 as usize + 1 {
-        let place = Place(slots.first.0 + n);
-        if slots.names(n as u8) && table[place.0].equipped {
-            let circuit = &mut table[place.0];
+    let circuits = &mut table[slots.first.0..=slots.first.0 + slots.group.range.0 as usize];
+    for (n, circuit) in circuits.iter_mut().enumerate() {
+        if slots.names(n as u8) && circuit.equipped {
+            let place = Place(slots.first.0 + n);
             let rest = &mut words[count..];
             count += visit(trunk.cic_at(place), place, rule, circuit, policy, rest);
         }

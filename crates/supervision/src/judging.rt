@@ -66,7 +66,7 @@ pub(crate) fn cause_of(location: u8, value: u8) -> Result<Cause, Refusal>
     })
 }
 
-// The type of a group order with a mask.
+// The type of a group order with a mask. It comes as its number, as operations take plain numbers.
 pub(crate) fn type_of(kind: u8, mask: u32) -> Result<BlockType, Refusal>
     ensures { result ≡ type_of kind mask }
 {

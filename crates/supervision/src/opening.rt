@@ -45,7 +45,7 @@ fn fill(equipment: &[u32], table: &mut [Circuit])
     }
 }
 
-// Withdraws every member.
+// Withdraws every member; the number counted is the place itself.
 fn withdraw_all<P: Policy>(policy: &mut P)
     ensures { (k : ℕ) → slice_index_or (P.Policy.held policy.new) k false ≡ false }
 {
