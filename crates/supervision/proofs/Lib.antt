@@ -9,7 +9,6 @@ pub mod Keeping
 pub mod Masks
 pub mod Naming
 pub mod Passing
-pub mod Sending
 pub mod Settling
 pub mod Some
 pub mod Stepping

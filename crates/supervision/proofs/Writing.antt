@@ -47,10 +47,6 @@ part_at a xs w ys l e =
     let none : drop (length w - a) (drop a w) ≡ [] = drop_all (length w - a) (drop a w) (simp length-drop (omega arith)) in
     rw (e, none, take_rest w a, append-nil (over xs (drop a w))) refl
 
--- the first
-pub over_one : {X : Type 0} (x : X) (w : List X) → 1 ≤ length w → set w 0 x ≡ over (x ∷ []) w
-over_one x w l = over_push [] w x (omega arith)
-
 -- the part's own places, in the whole
 pub get_in_part : {X : Type 0} (a k : ℕ) (w ys : List X) (j : ℕ) (d : X) → a ≤ length w → j < length ys
     → get_or (put_mid a k w ys) (a + j) d ≡ get_or ys j d
