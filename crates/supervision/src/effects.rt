@@ -118,6 +118,7 @@ fn sweep<P: Policy>(
     count
 }
 
+// no struct of the four that are lent: each function would promise besides that it keeps the four references
 impl Trunk {
     // Does a rule at the place of an equipped circuit, and sends a message.
     pub(crate) fn perform_at<P: Policy>(

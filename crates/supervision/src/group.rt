@@ -40,16 +40,17 @@ impl Trunk {
         if system >= self.config.systems || mask % 2 == 1 {
             return Err(Refusal::Address);
         }
-        let first = Place(system * 32 + 1);
         let status = (mask / 2).to_le_bytes();
-        let group = Group {
-            range: RANGE,
-            status: &status,
+        let slots = Slots {
+            first: Place(system * 32 + 1),
+            group: Group {
+                range: RANGE,
+                status: &status,
+            },
         };
-        let slots = Slots { first, group };
         slots.judge(rule, table)?;
-        let cic = self.cic_at(first);
-        let message = Message::Grouped(cic, what, why, group);
+        let cic = self.cic_at(slots.first);
+        let message = Message::Grouped(cic, what, why, slots.group);
         Ok(self.perform(slots, rule, message, table, policy, words, octets))
     }
 
@@ -69,15 +70,16 @@ impl Trunk {
         if system >= self.config.systems {
             return Err(Refusal::Address);
         }
-        let first = Place(system * 32 + 1);
         let every = [0xff, 0xff, 0xff, 0x7f];
-        let group = Group {
-            range: RANGE,
-            status: &every,
+        let slots = Slots {
+            first: Place(system * 32 + 1),
+            group: Group {
+                range: RANGE,
+                status: &every,
+            },
         };
-        let slots = Slots { first, group };
         let rule = Rule::Reset(Reset::Group);
-        let message = Message::GroupReset(self.cic_at(first), RANGE);
+        let message = Message::GroupReset(self.cic_at(slots.first), RANGE);
         Ok(self.perform(slots, rule, message, table, policy, words, octets))
     }
 
