@@ -84,6 +84,7 @@ impl Trunk {
     }
 
     // Does an order of a type for the circuits of a mask, by the rule for that type.
+    // Type, PCM system and mask stay three numbers, as the operations take them.
     fn order_typed<P: Policy, F: Fn(BlockType) -> Rule>(
         self,
         rule: F,

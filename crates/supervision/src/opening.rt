@@ -28,8 +28,7 @@ fn fits_trunk(first: Cic, equipment: &[u32], places: usize) -> bool
 {
     let systems = equipment.len();
     first.0 % 32 == 0
-        && systems >= 1
-        && systems <= 16
+        && (1..=16).contains(&systems)
         && first.0 as usize + systems * 32 <= 4096
         && places == systems * 32
         && are_equipment(equipment)
