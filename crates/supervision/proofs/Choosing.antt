@@ -1,5 +1,5 @@
 -- What the policy's choice leads to.
-use Rattle.std.proofs.Common.{◌≡◌, ℕ, ◌+◌, ◌≤◌, Bool, true, eqb, List, length, is_ok, Some, None, Ok, Option, Result, sym, refl, ap, ◌∙◌, subst}
+use Rattle.std.proofs.Common.{◌≡◌, ℕ, ◌+◌, ◌≤◌, Bool, true, eqb, List, length, is_ok, Some, None, Ok, Option, Result, sym, refl, ◌∙◌, subst}
 use Rattle.std.proofs.lemmas.Bool.{false≢true, eqb-true}
 use Rattle.policy.specs.Sets.{Chosen}
 use Rattle.policy.specs.declared.interface.Place.{Place}
@@ -13,10 +13,10 @@ use Rattle.circuit.specs.declared.rules.Rule.TheVariants.{Seize}
 use Rattle.refusal.specs.declared.reasons.Refusal.{Refusal}
 use Rattle.supervision.specs.declared.trunk.Config.{Config}
 use Rattle.supervision.specs.Laws.{placed, SetIsOpen}
-use Rattle.supervision.specs.Lending.{Lent, carried, counts_of}
+use Rattle.supervision.specs.Lending.{Lent, Performed}
 use Rattle.supervision.specs.Orders.{ordered}
 use Rattle.supervision.specs.Seizing.{seizable, seizing, Seizure}
-use Rattle.supervision.proofs.Keeping.{lawful}
+use Rattle.supervision.proofs.Keeping.{outcome_of}
 
 -- where the set is the open circuits, there is a place exactly if some circuit is open
 fair_choice : (T : List Circuit) (H : List Bool) (choice : Option Place) → Chosen H choice → SetIsOpen T H
@@ -33,16 +33,14 @@ pub seizure_accepted : (t : Config) (body : List ℕ) (choice : Option Place) (p
     → Ok place ≡ seizable choice before.table
     → length before.table ≤ length before.held
     → is_open (placed before.table place.0) ≡ true
-    → n ≡ counts_of t (ordered (λ k. eqb k place.0) Seize (call (t.first.0 + place.0) Iam body)) before
-    → after ≡ carried t (ordered (λ k. eqb k place.0) Seize (call (t.first.0 + place.0) Iam body)) before
+    → Performed t (ordered (λ k. eqb k place.0) Seize (call (t.first.0 + place.0) Iam body)) n before after
     → Seizure t body (Ok n) before after
-seizure_accepted t body choice place n before after chosen v l o counts same =
+seizure_accepted t body choice place n before after chosen v l o p =
     let m = ordered (λ k. eqb k place.0) Seize (call (t.first.0 + place.0) Iam body) in
-    let a : seizing t body choice before.table ≡ Ok m = rw (← v) refl in
     record {
       choice = choice;
       chosen = chosen;
-      done = rw a (ap Ok counts, same);
-      laws = rw (a, same) (lawful t m before l (λ k h e. order_keeps Seize (placed before.table k) (rw (eqb-true k place.0 h) o)));
+      outcome = outcome_of t (λ b. seizing t body choice b.table) m n before after l
+          (λ k h e. order_keeps Seize (placed before.table k) (rw (eqb-true k place.0 h) o)) (rw (← v) refl) p;
       fair = λ set. subst (λ (s : Result Place Refusal). Exactly (is_ok s ≡ true) ((k : ℕ) × (is_open (placed before.table k) ≡ true))) (sym v) (fair_choice before.table before.held choice chosen set);
     }

@@ -18,11 +18,11 @@ use Rattle.refusal.specs.Refusals.{unless}
 use Rattle.supervision.specs.Lending.{lent, over, carried, counts_of}
 use Rattle.supervision.specs.Moves.{where_named, told_from}
 use Rattle.supervision.specs.Orders.{ordered}
-use Rattle.supervision.specs.Steps.{settled_at, written_at, Stood}
+use Rattle.supervision.specs.Steps.{settled_at, Stood}
 use Rattle.supervision.specs.Trunks.{cic_at}
 use Rattle.supervision.proofs.Naming.{unnamed, acts}
 use Rattle.supervision.proofs.Stepping.{stands_from, stands_more, stands_all, told_short}
-use Rattle.supervision.proofs.Writing.{push_at}
+use Rattle.supervision.proofs.Writing.{more_at}
 
 -- one circuit changed
 pub stood_one : (t : Config) (p q : ℕ) (rule : Rule) (T : List Circuit) (H : List Bool) (W : List ℕ) (table : List Circuit) (held : List Bool) (words : List ℕ) (n : ℕ)
@@ -32,8 +32,8 @@ pub stood_one : (t : Config) (p q : ℕ) (rule : Rule) (T : List Circuit) (H : L
     → (get_or T p vacant).equipped ≡ true
     → table ≡ set T p (applied rule (get_or T p vacant)).circuit
     → held ≡ settled_at H p (is_open (get_or T p vacant)) (is_open (applied rule (get_or T p vacant)).circuit)
-    → words ≡ written_at (map number_of (told_of (cic_at t p) (applied rule (get_or T p vacant)))) 0 W
-    → n ≡ 0 + length (told_of (cic_at t p) (applied rule (get_or T p vacant)))
+    → words ≡ over (map number_of (told_of (cic_at t p) (applied rule (get_or T p vacant)))) W
+    → n ≡ length (told_of (cic_at t p) (applied rule (get_or T p vacant)))
     → Stood t (where_named (λ k. eqb k q) (λ _. applied rule)) T H W table held words n
 stood_one t p q rule T H W table held words n pq lt lw eq it ih iw im =
     let named = λ (k : ℕ). eqb k p in
@@ -43,29 +43,29 @@ stood_one t p q rule T H W table held words n pq lt lw eq it ih iw im =
     let start = stands_from t f p T H W (omega arith) (λ j a b x. unnamed named (λ _. applied rule) j x (ne_eqb j p (λ z. omega (arith, z)))) in
     let short = told_short (cic_at t p) (applied rule c) in
     let none : length (told_from t f 0 (take p T)) ≡ 0 = sym start.3 in
-    let next = stands_more t f p T H W T table H held W words 0 n start lt (rw (e, none) (omega arith)) (rw e it) (rw e ih) (rw e iw) (rw e im) in
+    let next = stands_more t f p T H W T table H held W words 0 n start lt (rw (e, none) (omega arith)) (rw e it) (rw e ih) (rw e iw) (rw e (im ∙ sym (zero-add _))) in
     let all : Stood t (where_named (λ k. eqb k p) (λ _. applied rule)) T H W table held words n =
     stands_all t f (p + 1) T H W table held words n next (omega arith) (λ j a x. unnamed named (λ _. applied rule) j x (ne_eqb j p (λ z. omega (arith, z)))) in
     subst (λ z. Stood t (where_named (λ k. eqb k z) (λ _. applied rule)) T H W table held words n) pq all
 
-one_message : (w before after : List ℕ) → after ≡ take 0 before ++ (w ++ drop (0 + length w) before) → after ≡ over (w ++ []) before
-one_message w before after e = e ∙ rw (zero-add (length w), append-nil w) refl
+one_message : (w before after : List ℕ) → after ≡ over w before → after ≡ over (w ++ []) before
+one_message w before after e = e ∙ rw (append-nil w) refl
 
-one_count : (w : List ℕ) (n k : ℕ) → n ≡ k → ◌≡◌ {A = ℕ × ℕ} (n, 0 + length w) (k, length (w ++ []))
-one_count w n k e = rw (e, zero-add (length w), append-nil w) refl
+one_count : (w : List ℕ) (n k : ℕ) → n ≡ k → ◌≡◌ {A = ℕ × ℕ} (n, length w) (k, length (w ++ []))
+one_count w n k e = rw (e, append-nil w) refl
 
 -- and one message sent
 pub finished : (t : Config) (named : ℕ → Bool) (rule : Rule) (m : Msg) (T : List Circuit) (H : List Bool) (W O : List ℕ) (table : List Circuit) (held : List Bool) (words words' octets' : List ℕ) (n : ℕ)
     → Stood t (where_named named (λ _. applied rule)) T H W table held words n
     → n < length W
-    → words' ≡ set words n (number_of (Send 0 (length (encode m))))
-    → octets' ≡ take 0 O ++ (encode m ++ drop (0 + length (encode m)) O)
-    → (((n + 1, 0 + length (encode m)) ≡ counts_of t (ordered named rule m) (lent T H W O)) × (lent table held words' octets' ≡ carried t (ordered named rule m) (lent T H W O)))
+    → words' ≡ take n words ++ over (number_of (Send 0 (length (encode m))) ∷ []) (drop n words)
+    → octets' ≡ over (encode m) O
+    → (((n + 1, length (encode m)) ≡ counts_of t (ordered named rule m) (lent T H W O)) × (lent table held words' octets' ≡ carried t (ordered named rule m) (lent T H W O)))
 finished t named rule m T H W O table held words words' octets' n (it, ih, iw, im) l pw po =
     let said = told_from t (where_named named (λ _. applied rule)) 0 T in
     let x = Send 0 (length (encode m)) in
     let w : words' ≡ over (map number_of (said ++ x ∷ [])) W =
-    pw ∙ rw (iw, im, map_push number_of said x) (push_at (map number_of said) W (number_of x) (length said) (length-map said number_of) (rw (← im) l)) in
+    pw ∙ rw (iw, map_push number_of said x) (more_at (map number_of said) (number_of x ∷ []) W n (length-map said number_of ∙ sym im) (omega arith)) in
     let o : octets' ≡ over (encode m ++ []) O = one_message (encode m) O octets' po in
     (one_count (encode m) (n + 1) (length (said ++ x ∷ [])) (rw (im, length_push said x) refl), rw (it, ih, w, o) refl)
 

@@ -17,8 +17,8 @@ use Rattle.told.specs.declared.kinds.Word.{Word}
 use Rattle.told.specs.declared.kinds.Word.TheVariants.{Send, Begun, Ended, Alert}
 use Rattle.refusal.specs.declared.reasons.Refusal.{Refusal}
 use Rattle.supervision.specs.declared.trunk.Config.{Config}
-use Rattle.supervision.specs.Laws.{placed, SetIsOpen, about, Lawful, Laws}
-use Rattle.supervision.specs.Lending.{Lent, kept, settled, carried, Done}
+use Rattle.supervision.specs.Laws.{placed, SetIsOpen, about, Lawful, Outcome}
+use Rattle.supervision.specs.Lending.{Lent, Performed, kept, settled, carried}
 use Rattle.supervision.specs.Moves.{Move, each_from, told_from, sends_from, step_of, table_of, call_words, alert_word, words_of}
 use Rattle.supervision.specs.Trunks.{cic_at}
 use Rattle.supervision.proofs.Naming.{unnamed, unequipped, acts}
@@ -175,11 +175,22 @@ lawful t m before l h =
       turns = λ k b. rw (about-words t m T k b, table_at m T k) ((keeps k).turns (cic_at t k));
     }
 
--- from what an operation did, and from what the rules ask of the circuits that they name
-pub laws_of : (t : Config) (a : Result Move Refusal) (r : Result (ℕ × ℕ) Refusal) (before after : Lent)
+-- accepted, and the move was done
+pub outcome_of : (t : Config) (answer : Lent → Result Move Refusal) (m : Move) (n : ℕ × ℕ) (before after : Lent)
     → length before.table ≤ length before.held
-    → ((m : Move) → a ≡ Ok m → Allowed m before.table)
-    → Done t a r before after
-    → Laws t a before after
-laws_of t (Err e) r before after l h d = d.1
-laws_of t (Ok m) r before after l h d = rw d.1 (lawful t m before l (h m refl))
+    → Allowed m before.table
+    → answer before ≡ Ok m
+    → Performed t m n before after
+    → Outcome t answer (Ok n) before after
+outcome_of t answer m n before after l h a p = record {
+  done = rw a (ap Ok p.counts, p.carries);
+  laws = rw (a, p.carries) (lawful t m before l h);
+  within = p.within;
+}
+
+-- refused, and all is as it was
+pub outcome_refused : (t : Config) (answer : Lent → Result Move Refusal) (e : Refusal) (r : Result (ℕ × ℕ) Refusal) (before : Lent)
+    → answer before ≡ Err e
+    → r ≡ Err e
+    → Outcome t answer r before before
+outcome_refused t answer e r before a q = rw q (record { done = rw a (refl, refl); laws = rw a refl; within = tt })

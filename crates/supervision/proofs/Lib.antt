@@ -8,7 +8,7 @@ pub mod Hearing
 pub mod Keeping
 pub mod Masks
 pub mod Naming
-pub mod Sending
+pub mod Passing
 pub mod Settling
 pub mod Some
 pub mod Stepping

@@ -13,10 +13,10 @@ use Rattle.circuit.specs.declared.rules.Change.{Change}
 use Rattle.supervision.specs.declared.trunk.Config.{Config}
 use Rattle.supervision.specs.Lending.{over, settled}
 use Rattle.supervision.specs.Moves.{each_from, told_from}
-use Rattle.supervision.specs.Steps.{settled_at, written_at, Stood}
+use Rattle.supervision.specs.Steps.{settled_at, Stood}
 use Rattle.supervision.specs.Trunks.{cic_at}
 use Rattle.supervision.proofs.Settling.{settled_same, settled_at_same, settled_step}
-use Rattle.supervision.proofs.Writing.{push_at, ahead_at, written_at_lem, length_over}
+use Rattle.supervision.proofs.Writing.{push_at, ahead_at, more_at, length_over}
 
 abbrev pub Step : Type 0
 Step = ℕ → Circuit → Change
@@ -83,7 +83,7 @@ pub stands_more : (t : Config) (f : Step) (m : ℕ) (T : List Circuit) (H : List
     → length (told_from t f 0 (take m T)) + length (told_of (cic_at t m) (f m (get_or table m vacant))) ≤ length W
     → table' ≡ set table m (f m (get_or table m vacant)).circuit
     → held' ≡ settled_at held m (is_open (get_or table m vacant)) (is_open (f m (get_or table m vacant)).circuit)
-    → words' ≡ written_at (map number_of (told_of (cic_at t m) (f m (get_or table m vacant)))) n words
+    → words' ≡ take n words ++ over (map number_of (told_of (cic_at t m) (f m (get_or table m vacant)))) (drop n words)
     → n' ≡ n + length (told_of (cic_at t m) (f m (get_or table m vacant)))
     → Stands t f (m + 1) T H W table' held' words' n'
 stands_more t f m T H W table table' held held' words words' n n' (it, ih, iw, im) lt lw pt ph pw pn =
@@ -107,7 +107,7 @@ stands_more t f m T H W table table' held held' words words' n n' (it, ih, iw, i
       ph ∙ rw (at, ih, outs, ← next)
           (rw same at (settled_step H T (over out T) m d.circuit lt (sym (length_over out T (omega arith))) same)),
       pw ∙ rw (at, iw, im, says, map-append number_of said (told_of (cic_at t m) d))
-          (written_at_lem (map number_of (told_of (cic_at t m) d)) (map number_of said) W (length said) (length-map said number_of)
+          (more_at (map number_of said) (map number_of (told_of (cic_at t m) d)) W (length said) (length-map said number_of)
           (rw (length-map (told_of (cic_at t m) d) number_of) lw')),
       pn ∙ rw (at, im, says) (sym (length-append said (told_of (cic_at t m) d))),
     )
@@ -124,7 +124,7 @@ stands_skip t f m T H W table held words n s lt lw q =
     (rw q (omega arith))
     (rw (q, set-get_or table m vacant) refl)
     (rw (q, settled_at_same held m (is_open (get_or table m vacant))) refl)
-    (rw q refl)
+    (rw q (sym (take-append-drop n words)))
     (rw (q, add-zero n) refl)
 
 -- the rest stays as it is

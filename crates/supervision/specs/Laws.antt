@@ -1,5 +1,5 @@
 -- What every operation keeps, over any table.
-use Rattle.std.specs.Prelude.{◌≡◌, ℕ, ◌+◌, ◌*◌, ◌<◌, ◌≤◌, Bool, true, false, cond, List, [], ◌∷◌, length, Ok, Err, Result, ◌==◌, slice_index_or}
+use Rattle.std.specs.Prelude.{◌≡◌, ℕ, ◌+◌, ◌*◌, ◌<◌, ◌≤◌, Bool, true, false, cond, List, [], ◌∷◌, length, IfOk, Ok, Err, Result, ◌==◌, slice_index_or}
 use Rattle.status.specs.Bits.{is_named}
 use Rattle.message.specs.Msg.{Msg}
 use Rattle.circuit.specs.Changes.{with_reset}
@@ -13,7 +13,7 @@ use Rattle.told.specs.declared.kinds.Word.{Word}
 use Rattle.told.specs.declared.kinds.Word.TheVariants.{Send, Begun, Ended, Alert}
 use Rattle.refusal.specs.declared.reasons.Refusal.{Refusal}
 use Rattle.supervision.specs.declared.trunk.Config.{Config}
-use Rattle.supervision.specs.Lending.{Lent, kept}
+use Rattle.supervision.specs.Lending.{Lent, kept, Done}
 use Rattle.supervision.specs.Moves.{Move, table_of, words_of}
 use Rattle.supervision.specs.Orders.{singly, slots, every_slot, status_of}
 use Rattle.supervision.specs.Trunks.{cic_at}
@@ -62,6 +62,13 @@ pub record Lawful (t : Config) (m : Move) (before after : Lent) : Type 0 where
 abbrev pub Laws : Config → Result Move Refusal → Lent → Lent → Type 0
 Laws t (Err e) before after = after ≡ before
 Laws t (Ok m) before after = Lawful t m before after
+
+-- what an operation promises, by what the rules answer to what is lent
+pub record Outcome (t : Config) (answer : Lent → Result Move Refusal) (r : Result (ℕ × ℕ) Refusal) (before after : Lent) : Type 0 where
+  pub done : Done t (answer before) r before after
+  pub laws : Laws t (answer before) before after
+  -- what is written is within the outputs
+  pub within : IfOk r (λ n. (n.0 ≤ length before.words) × (n.1 ≤ length before.octets))
 
 -- a group order that was accepted
 pub record GroupOrder (t : Config) (system mask : ℕ) (rule : Rule) (before after : Lent) : Type 0 where

@@ -1,5 +1,5 @@
 -- What is lent to an operation, and what it leaves there.
-use Rattle.std.specs.Prelude.{◌≡◌, ℕ, Bool, true, false, List, [], ◌∷◌, ◌++◌, map, length, drop, Ok, Err, Result}
+use Rattle.std.specs.Prelude.{◌≡◌, ℕ, ◌*◌, ◌≤◌, Bool, true, false, List, [], ◌∷◌, ◌++◌, map, length, drop, Ok, Err, Result}
 use Rattle.circuit.specs.Circuits.{is_open}
 use Rattle.told.specs.Words.{number_of}
 use Rattle.circuit.specs.declared.record.Circuit.{Circuit}
@@ -16,6 +16,13 @@ pub record Lent : Type 0 where
 
 abbrev pub lent : List Circuit → List Bool → List ℕ → List ℕ → Lent
 lent t h w o = record { table = t; held = h; words = w; octets = o }
+
+-- enough is lent: 32 places for each PCM system, a policy that takes as many, and room for all that an operation writes
+pub record Suffices (t : Config) (room : ℕ) (before : Lent) : Type 0 where
+  pub table : length before.table ≡ t.systems * 32
+  pub places : length before.table ≤ room
+  pub words : 96 ≤ length before.words
+  pub octets : 320 ≤ length before.octets
 
 -- written from the start of an output, the rest as it was
 abbrev pub over : {X : Type 0} → List X → List X → List X
@@ -48,6 +55,12 @@ carried t m before =
 -- how many words and octets are written
 abbrev pub counts_of : Config → Move → Lent → ℕ × ℕ
 counts_of t m before = (length (words_of t m before.table), length (octets_of m))
+
+-- a move is done: n counts what is written, all of it within the outputs
+pub record Performed (t : Config) (m : Move) (n : ℕ × ℕ) (before after : Lent) : Type 0 where
+  pub counts : n ≡ counts_of t m before
+  pub carries : after ≡ carried t m before
+  pub within : (n.0 ≤ length before.words) × (n.1 ≤ length before.octets)
 
 -- what an operation does, by what the rules answer: refused, all is as it was; accepted, all is as the move says
 abbrev pub Done : Config → Result Move Refusal → Result (ℕ × ℕ) Refusal → Lent → Lent → Type 0

@@ -1,6 +1,6 @@
 -- Opening a trunk.
-use Rattle.std.specs.Prelude.{◌≡◌, ℕ, ◌+◌, ◌*◌, ◌/◌, ◌%◌, ◌^◌, Bool, true, not, ◌&&◌, List, [], ◌∷◌, map, length, Ok, Err, Result, ◌==◌, nat_le, nat_lt, slice_index}
-use Rattle.std.specs.List.{range_with_len}
+use Rattle.std.specs.Prelude.{◌≡◌, ℕ, ◌+◌, ◌*◌, ◌/◌, ◌%◌, ◌^◌, Bool, not, ◌&&◌, List, map, length, Ok, Err, Result, ◌==◌, nat_le, nat_lt, slice_index}
+use Rattle.std.specs.List.{list_all, range_with_len}
 use Rattle.status.specs.declared.circuit.Cic.{Cic}
 use Rattle.circuit.specs.Circuits.{fresh, is_open}
 use Rattle.circuit.specs.declared.record.Circuit.{Circuit}
@@ -16,8 +16,7 @@ abbrev pub is_equipment : ℕ → Bool
 is_equipment w = w % 2 == 0 && (w / 2 % 2 == 1 && w / 2 ^ 31 % 2 == 1)
 
 abbrev pub are_equipment : List ℕ → Bool
-are_equipment [] = true
-are_equipment (w ∷ ws) = is_equipment w && are_equipment ws
+are_equipment ws = list_all is_equipment ws
 
 -- from a multiple of 32 on, 1 to 16 PCM systems of 32 places, and no CIC past 4,095
 abbrev pub fits_trunk : ℕ → List ℕ → ℕ → Bool

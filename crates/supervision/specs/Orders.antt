@@ -5,6 +5,7 @@ use Rattle.message.specs.Meaning.{indicator_of}
 use Rattle.message.specs.Msg.{Msg, single, release, grouped, group_reset}
 use Rattle.message.specs.declared.kinds.BlockType.{BlockType}
 use Rattle.message.specs.declared.kinds.BlockType.TheVariants.{Maintenance, Hardware}
+use Rattle.message.specs.declared.kinds.Grouped.{Grouped}
 use Rattle.message.specs.declared.kinds.Grouped.TheVariants.{Cgb, Cgu}
 use Rattle.message.specs.declared.kinds.Single.TheVariants.{Rsc, Blo, Ubl}
 use Rattle.circuit.specs.Circuits.{vacant}
@@ -97,17 +98,18 @@ why_of kind = cond (kind == 0) Maintenance Hardware
 abbrev pub type_of : ℕ → ℕ → Result BlockType Refusal
 type_of kind mask = unless (nat_lt 1 kind || mask == 0) Argument (Ok (why_of kind))
 
-abbrev pub group_blocking : Config → ℕ → ℕ → ℕ → ℕ → Lent → Result Move Refusal
-group_blocking t room kind system mask lent =
+-- an order of a type for the circuits of a mask, with the rule that it is for that type
+abbrev pub typed : (BlockType → Rule) → Grouped → Config → ℕ → ℕ → ℕ → ℕ → Lent → Result Move Refusal
+typed rule what t room kind system mask lent =
     and_then (admitted t room lent)
     (λ _. and_then (type_of kind mask)
-    (λ why. groupwise t system mask (Block why) (grouped (first_of t system) Cgb (indicator_of why) 30 (status_of mask)) lent.table))
+    (λ why. groupwise t system mask (rule why) (grouped (first_of t system) what (indicator_of why) 30 (status_of mask)) lent.table))
+
+abbrev pub group_blocking : Config → ℕ → ℕ → ℕ → ℕ → Lent → Result Move Refusal
+group_blocking t room kind system mask lent = typed Block Cgb t room kind system mask lent
 
 abbrev pub group_unblocking : Config → ℕ → ℕ → ℕ → ℕ → Lent → Result Move Refusal
-group_unblocking t room kind system mask lent =
-    and_then (admitted t room lent)
-    (λ _. and_then (type_of kind mask)
-    (λ why. groupwise t system mask (Unblock why) (grouped (first_of t system) Cgu (indicator_of why) 30 (status_of mask)) lent.table))
+group_unblocking t room kind system mask lent = typed Unblock Cgu t room kind system mask lent
 
 -- a group reset names every circuit of the PCM system
 abbrev pub clearing : Config → ℕ → Result Move Refusal

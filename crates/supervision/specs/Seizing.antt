@@ -11,8 +11,8 @@ use Rattle.circuit.specs.declared.rules.Rule.TheVariants.{Seize}
 use Rattle.refusal.specs.declared.reasons.Refusal.{Refusal}
 use Rattle.refusal.specs.declared.reasons.Refusal.TheVariants.{Argument, NoneOpen, Choice}
 use Rattle.supervision.specs.declared.trunk.Config.{Config}
-use Rattle.supervision.specs.Laws.{placed, SetIsOpen, Laws}
-use Rattle.supervision.specs.Lending.{Lent, Done}
+use Rattle.supervision.specs.Laws.{placed, SetIsOpen, Outcome}
+use Rattle.supervision.specs.Lending.{Lent}
 use Rattle.supervision.specs.Moves.{Move}
 use Rattle.supervision.specs.Orders.{admitted, ordered}
 use Rattle.refusal.specs.Refusals.{unless, and_then}
@@ -38,8 +38,7 @@ pub record Seizure (t : Config) (body : List ℕ) (r : Result (ℕ × ℕ) Refus
   pub choice : Option Place
   -- it is a member, or none exactly if there is none
   pub chosen : Chosen before.held choice
-  pub done : Done t (seizing t body choice before.table) r before after
-  pub laws : Laws t (seizing t body choice before.table) before after
+  pub outcome : Outcome t (λ b. seizing t body choice b.table) r before after
   -- where the set is the open circuits, a seizure is accepted exactly if some circuit is open
   pub fair : SetIsOpen before.table before.held → Exactly (is_ok r ≡ true) ((k : ℕ) × (is_open (placed before.table k) ≡ true))
 

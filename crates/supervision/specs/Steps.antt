@@ -1,12 +1,10 @@
 -- The steps that the code takes, one place or one word at a time.
-use Rattle.std.specs.Prelude.{◌≡◌, ℕ, suc, ◌-◌, Bool, true, false, ◌&&◌, List, [], ◌∷◌, map, length, nat_le, slice_set}
+use Rattle.std.specs.Prelude.{◌≡◌, ℕ, ◌-◌, Bool, true, false, ◌&&◌, List, map, length, nat_le, slice_set}
 use Rattle.status.specs.Bits.{is_named}
 use Rattle.told.specs.Words.{number_of}
 use Rattle.circuit.specs.declared.record.Circuit.{Circuit}
 use Rattle.circuit.specs.declared.rules.Change.{Change}
-use Rattle.circuit.specs.Laws.{allows}
-use Rattle.supervision.specs.declared.judging.Test.{Test}
-use Rattle.supervision.specs.declared.judging.Test.TheVariants.{Equipped, Allowed}
+use Rattle.supervision.specs.declared.slots.Slots.{Slots}
 use Rattle.supervision.specs.declared.trunk.Config.{Config}
 use Rattle.supervision.specs.Lending.{over, settled}
 use Rattle.supervision.specs.Moves.{each_from, told_from}
@@ -18,14 +16,13 @@ settled_at h k true false = slice_set h k false
 settled_at h k false true = slice_set h k true
 settled_at h k false false = h
 
--- words written one after the other, from the place n on
-abbrev pub written_at : List ℕ → ℕ → List ℕ → List ℕ
-written_at [] n w = w
-written_at (x ∷ xs) n w = written_at xs (suc n) (slice_set w n x)
-
 -- the places from `first` on that a status of the range r names
 abbrev pub covers : ℕ → ℕ → List ℕ → ℕ → Bool
 covers first r status k = nat_le first k && is_named r status (k - first)
+
+-- the places that slots name
+abbrev pub named_by : Slots → ℕ → Bool
+named_by slots = covers slots.first.0 slots.group.range.0 slots.group.status.now
 
 -- what is left once each circuit of a table T is changed by its place: the table, the set, the words, and their count
 abbrev pub Stood : Config → (ℕ → Circuit → Change) → List Circuit → List Bool → List ℕ → List Circuit → List Bool → List ℕ → ℕ → Type 0
@@ -34,8 +31,3 @@ Stood t f T H W table held words n =
     × (held ≡ settled H T (each_from f 0 T))
     × (words ≡ over (map number_of (told_from t f 0 T)) W)
     × (n ≡ length (told_from t f 0 T))
-
--- what the judge asks of a named circuit
-abbrev pub passes : Test → Circuit → Bool
-passes Equipped c = c.equipped
-passes (Allowed rule) c = allows rule c

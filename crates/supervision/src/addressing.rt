@@ -1,6 +1,6 @@
 // CICs and places: each is found from the other against a trunk, never taken for it.
-ghost use Rattle.std.specs.Prelude.{◌≡◌};
-ghost use Rattle.supervision.specs.Trunks.{place_of, cic_of, controls};
+ghost use Rattle.std.specs.Prelude.{◌≡◌, ◌*◌, ◌<◌};
+ghost use Rattle.supervision.specs.Trunks.{place_of, cic_of, cic_at, controls};
 
 use crate::trunk::Trunk;
 use policy::Place;
@@ -11,24 +11,23 @@ impl Trunk {
     pub fn place(self, cic: Cic) -> Option<Place>
         ensures { result ≡ place_of self.config cic }
     {
-        let first = self.config.first.0 as usize;
-        let number = cic.0 as usize;
-        if number >= first && number < first + self.config.systems * 32 {
-            Some(Place(number - first))
-        } else {
-            None
-        }
+        let place = cic.0.checked_sub(self.config.first.0)? as usize;
+        (place < self.config.systems * 32).then_some(Place(place))
     }
 
     // The CIC of a place, if the table has it.
     pub fn cic(self, place: Place) -> Option<Cic>
         ensures { result ≡ cic_of self.config place }
     {
-        if place.0 < self.config.systems * 32 {
-            Some(Cic(self.config.first.0 + place.0 as u16))
-        } else {
-            None
-        }
+        (place.0 < self.config.systems * 32).then(|| self.cic_at(place))
+    }
+
+    // The CIC of a place of the table.
+    pub(crate) fn cic_at(self, place: Place) -> Cic
+        requires { place.0 < self.config.systems * 32 }
+        ensures { result ≡ cic_at self.config place.0 }
+    {
+        Cic(self.config.first.0 + place.0 as u16)
     }
 
     // Whether we control the circuit: with the higher point code the even ones, else the odd ones.

@@ -1,53 +1,25 @@
 // Orders for circuits of a PCM system.
-ghost use Rattle.std.specs.Prelude.{◌≡◌, ◌+◌, ◌*◌, ◌<◌, ◌≤◌, length, IfOk, None};
-ghost use Rattle.message.specs.Encode.{encode, refusal_of};
-ghost use Rattle.message.specs.Meaning.{meaning, indicator_of};
+ghost use Rattle.std.specs.Prelude.{◌≡◌};
+ghost use Rattle.message.specs.Meaning.{indicator_of};
 ghost use Rattle.message.specs.Msg.{grouped};
-ghost use Rattle.supervision.specs.Laws.{Laws, GroupLaws, ResetAlike};
-ghost use Rattle.supervision.specs.Lending.{Done, lent, carried, counts_of};
-ghost use Rattle.supervision.specs.Orders.{ordered, groupwise, clearing, status_of, why_of, group_blocking, group_unblocking, group_resetting};
-ghost use Rattle.supervision.specs.Steps.{covers};
+ghost use Rattle.supervision.specs.Laws.{Outcome, GroupLaws, ResetAlike};
+ghost use Rattle.supervision.specs.Lending.{Suffices, lent};
+ghost use Rattle.supervision.specs.Orders.{groupwise, typed, clearing, status_of, why_of, group_blocking, group_unblocking, group_resetting};
 ghost use Rattle.supervision.specs.Trunks.{first_of};
 
-use crate::effects::{send, sweep};
-use crate::judging::{judge, type_of};
+use crate::judging::type_of;
+use crate::slots::Slots;
 use crate::trunk::Trunk;
 use circuit::{Circuit, Reset, Rule};
 use message::{BlockType, Grouped, Message};
 use policy::{Place, Policy};
 use refusal::Refusal;
-use status::{Cic, Group, Range};
+use status::{Group, Range};
 
 // Our group messages count from time slot 1, with this range.
 const RANGE: Range = Range(30);
 
 impl Trunk {
-    // Does the rule at each circuit that a status names, and sends the message.
-    fn perform<P: Policy>(
-        self,
-        first: Place,
-        group: Group<'_>,
-        rule: Rule,
-        message: Message<'_>,
-        table: &mut [Circuit],
-        policy: &mut P,
-        words: &mut [u32],
-        octets: &mut [u8],
-    ) -> (usize, usize)
-        requires table { length table.old ≡ self.config.systems * 32 }
-        requires inside { first.0 + group.range.0 < length table.old }
-        requires words { (group.range.0 + 1) * 2 < length words.old }
-        requires octets { length (encode (meaning message)) ≤ length octets.old }
-        requires writable { refusal_of (meaning message) ≡ None }
-        requires short { length (encode (meaning message)) ≤ 320 }
-        ensures counts { result ≡ counts_of self.config (ordered (covers first.0 group.entry.range.0 group.entry.status.now) rule (meaning message.entry)) (lent table.old (P.Policy.held policy.old) words.old octets.old) }
-        ensures after { (lent table.new (P.Policy.held policy.new) words.new octets.new) ≡ carried self.config (ordered (covers first.0 group.entry.range.0 group.entry.status.now) rule (meaning message.entry)) (lent table.old (P.Policy.held policy.old) words.old octets.old) }
-        ensures within { (result.0 ≤ length words.old) × (result.1 ≤ length octets.old) }
-    {
-        let count = sweep(self, first, group, rule, table, policy, words);
-        send(message, words, count, octets, 0)
-    }
-
     // Does an order for the circuits of a mask and sends its message.
     fn order_group<P: Policy>(
         self,
@@ -61,32 +33,25 @@ impl Trunk {
         words: &mut [u32],
         octets: &mut [u8],
     ) -> Result<(usize, usize), Refusal>
-        requires table { length table.old ≡ self.config.systems * 32 }
-        requires places { length table.old ≤ P.Policy.PLACES }
-        requires words { 96 ≤ length words.old }
-        requires octets { 320 ≤ length octets.old }
-        ensures done { Done self.config (groupwise self.config system mask rule (grouped (first_of self.config system) what (indicator_of why) 30 (status_of mask)) table.old) result (lent table.old (P.Policy.held policy.old) words.old octets.old) (lent table.new (P.Policy.held policy.new) words.new octets.new) }
-        ensures laws { Laws self.config (groupwise self.config system mask rule (grouped (first_of self.config system) what (indicator_of why) 30 (status_of mask)) table.old) (lent table.old (P.Policy.held policy.old) words.old octets.old) (lent table.new (P.Policy.held policy.new) words.new octets.new) }
-        ensures within { IfOk result (λ n. (n.0 ≤ length words.old) × (n.1 ≤ length octets.old)) }
+        requires enough { Suffices self.config P.Policy.PLACES (lent table.old (P.Policy.held policy.old) words.old octets.old) }
+        ensures outcome { Outcome self.config (λ before. groupwise self.config system mask rule (grouped (first_of self.config system) what (indicator_of why) 30 (status_of mask)) before.table) result (lent table.old (P.Policy.held policy.old) words.old octets.old) (lent table.new (P.Policy.held policy.new) words.new octets.new) }
         ensures group { GroupLaws self.config system mask rule (groupwise self.config system mask rule (grouped (first_of self.config system) what (indicator_of why) 30 (status_of mask)) table.old) (lent table.old (P.Policy.held policy.old) words.old octets.old) (lent table.new (P.Policy.held policy.new) words.new octets.new) }
     {
         if system >= self.config.systems || mask % 2 == 1 {
             return Err(Refusal::Address);
         }
-        let first = Place(system * 32 + 1);
         let status = (mask / 2).to_le_bytes();
-        let group = Group {
-            range: RANGE,
-            status: &status,
+        let slots = Slots {
+            first: Place(system * 32 + 1),
+            group: Group {
+                range: RANGE,
+                status: &status,
+            },
         };
-        match judge(first, group, rule, table) {
-            Err(refusal) => Err(refusal),
-            Ok(()) => {
-                let cic = Cic(self.config.first.0 + first.0 as u16);
-                let message = Message::Grouped(cic, what, why, group);
-                Ok(self.perform(first, group, rule, message, table, policy, words, octets))
-            }
-        }
+        slots.judge(rule, table)?;
+        let cic = self.cic_at(slots.first);
+        let message = Message::Grouped(cic, what, why, slots.group);
+        Ok(self.perform(slots, rule, message, table, policy, words, octets))
     }
 
     // Resets the circuits of a PCM system and sends the message.
@@ -98,27 +63,57 @@ impl Trunk {
         words: &mut [u32],
         octets: &mut [u8],
     ) -> Result<(usize, usize), Refusal>
-        requires table { length table.old ≡ self.config.systems * 32 }
-        requires places { length table.old ≤ P.Policy.PLACES }
-        requires words { 96 ≤ length words.old }
-        requires octets { 320 ≤ length octets.old }
-        ensures done { Done self.config (clearing self.config system) result (lent table.old (P.Policy.held policy.old) words.old octets.old) (lent table.new (P.Policy.held policy.new) words.new octets.new) }
-        ensures laws { Laws self.config (clearing self.config system) (lent table.old (P.Policy.held policy.old) words.old octets.old) (lent table.new (P.Policy.held policy.new) words.new octets.new) }
-        ensures within { IfOk result (λ n. (n.0 ≤ length words.old) × (n.1 ≤ length octets.old)) }
+        requires enough { Suffices self.config P.Policy.PLACES (lent table.old (P.Policy.held policy.old) words.old octets.old) }
+        ensures outcome { Outcome self.config (λ _. clearing self.config system) result (lent table.old (P.Policy.held policy.old) words.old octets.old) (lent table.new (P.Policy.held policy.new) words.new octets.new) }
         ensures alike { ResetAlike self.config system (clearing self.config system) (lent table.old (P.Policy.held policy.old) words.old octets.old) (lent table.new (P.Policy.held policy.new) words.new octets.new) }
     {
         if system >= self.config.systems {
             return Err(Refusal::Address);
         }
-        let first = Place(system * 32 + 1);
         let every = [0xff, 0xff, 0xff, 0x7f];
-        let group = Group {
-            range: RANGE,
-            status: &every,
+        let slots = Slots {
+            first: Place(system * 32 + 1),
+            group: Group {
+                range: RANGE,
+                status: &every,
+            },
         };
         let rule = Rule::Reset(Reset::Group);
-        let message = Message::GroupReset(Cic(self.config.first.0 + first.0 as u16), RANGE);
-        Ok(self.perform(first, group, rule, message, table, policy, words, octets))
+        let message = Message::GroupReset(self.cic_at(slots.first), RANGE);
+        Ok(self.perform(slots, rule, message, table, policy, words, octets))
+    }
+
+    // Does an order of a type for the circuits of a mask, by the rule for that type.
+    // Type, PCM system and mask stay three numbers, as the operations take them.
+    fn order_typed<P: Policy, F: Fn(BlockType) -> Rule>(
+        self,
+        rule: F,
+        what: Grouped,
+        kind: u8,
+        system: usize,
+        mask: u32,
+        table: &mut [Circuit],
+        policy: &mut P,
+        words: &mut [u32],
+        octets: &mut [u8],
+    ) -> Result<(usize, usize), Refusal>
+        requires { F.IsAlwaysCallable rule }
+        ensures outcome { (of : BlockType → Rule) → ((why : BlockType) (r : Rule) → F.post rule why r → r ≡ of why) → Outcome self.config (typed of what self.config P.Policy.PLACES kind system mask) result (lent table.old (P.Policy.held policy.old) words.old octets.old) (lent table.new (P.Policy.held policy.new) words.new octets.new) }
+        ensures group { (of : BlockType → Rule) → ((why : BlockType) (r : Rule) → F.post rule why r → r ≡ of why) → GroupLaws self.config system mask (of (why_of kind)) (typed of what self.config P.Policy.PLACES kind system mask (lent table.old (P.Policy.held policy.old) words.old octets.old)) (lent table.old (P.Policy.held policy.old) words.old octets.old) (lent table.new (P.Policy.held policy.new) words.new octets.new) }
+    {
+        self.admit(table, policy, words, octets)?;
+        let why = type_of(kind, mask)?;
+        self.order_group(
+            system,
+            mask,
+            rule(why),
+            what,
+            why,
+            table,
+            policy,
+            words,
+            octets,
+        )
     }
 
     // Blocks the circuits of a mask: type 0 for maintenance, 1 for hardware, which ends their calls.
@@ -132,31 +127,20 @@ impl Trunk {
         words: &mut [u32],
         octets: &mut [u8],
     ) -> Result<(usize, usize), Refusal>
-        ensures done { Done self.config (group_blocking self.config P.Policy.PLACES kind system mask (lent table.old (P.Policy.held policy.old) words.old octets.old)) result (lent table.old (P.Policy.held policy.old) words.old octets.old) (lent table.new (P.Policy.held policy.new) words.new octets.new) }
-        ensures laws { Laws self.config (group_blocking self.config P.Policy.PLACES kind system mask (lent table.old (P.Policy.held policy.old) words.old octets.old)) (lent table.old (P.Policy.held policy.old) words.old octets.old) (lent table.new (P.Policy.held policy.new) words.new octets.new) }
-        ensures within { IfOk result (λ n. (n.0 ≤ length words.old) × (n.1 ≤ length octets.old)) }
+        ensures outcome { Outcome self.config (group_blocking self.config P.Policy.PLACES kind system mask) result (lent table.old (P.Policy.held policy.old) words.old octets.old) (lent table.new (P.Policy.held policy.new) words.new octets.new) }
         ensures group { GroupLaws self.config system mask (Rule.Block (why_of kind)) (group_blocking self.config P.Policy.PLACES kind system mask (lent table.old (P.Policy.held policy.old) words.old octets.old)) (lent table.old (P.Policy.held policy.old) words.old octets.old) (lent table.new (P.Policy.held policy.new) words.new octets.new) }
     {
-        match self.admit(P::PLACES, table.len(), words.len(), octets.len()) {
-            Err(refusal) => Err(refusal),
-            Ok(()) => match type_of(kind, mask) {
-                Err(refusal) => Err(refusal),
-                Ok(why) => {
-                    let rule = Rule::Block(why);
-                    self.order_group(
-                        system,
-                        mask,
-                        rule,
-                        Grouped::Cgb,
-                        why,
-                        table,
-                        policy,
-                        words,
-                        octets,
-                    )
-                }
-            },
-        }
+        self.order_typed(
+            Rule::Block,
+            Grouped::Cgb,
+            kind,
+            system,
+            mask,
+            table,
+            policy,
+            words,
+            octets,
+        )
     }
 
     // Lifts the blocks of the circuits of a mask.
@@ -170,31 +154,20 @@ impl Trunk {
         words: &mut [u32],
         octets: &mut [u8],
     ) -> Result<(usize, usize), Refusal>
-        ensures done { Done self.config (group_unblocking self.config P.Policy.PLACES kind system mask (lent table.old (P.Policy.held policy.old) words.old octets.old)) result (lent table.old (P.Policy.held policy.old) words.old octets.old) (lent table.new (P.Policy.held policy.new) words.new octets.new) }
-        ensures laws { Laws self.config (group_unblocking self.config P.Policy.PLACES kind system mask (lent table.old (P.Policy.held policy.old) words.old octets.old)) (lent table.old (P.Policy.held policy.old) words.old octets.old) (lent table.new (P.Policy.held policy.new) words.new octets.new) }
-        ensures within { IfOk result (λ n. (n.0 ≤ length words.old) × (n.1 ≤ length octets.old)) }
+        ensures outcome { Outcome self.config (group_unblocking self.config P.Policy.PLACES kind system mask) result (lent table.old (P.Policy.held policy.old) words.old octets.old) (lent table.new (P.Policy.held policy.new) words.new octets.new) }
         ensures group { GroupLaws self.config system mask (Rule.Unblock (why_of kind)) (group_unblocking self.config P.Policy.PLACES kind system mask (lent table.old (P.Policy.held policy.old) words.old octets.old)) (lent table.old (P.Policy.held policy.old) words.old octets.old) (lent table.new (P.Policy.held policy.new) words.new octets.new) }
     {
-        match self.admit(P::PLACES, table.len(), words.len(), octets.len()) {
-            Err(refusal) => Err(refusal),
-            Ok(()) => match type_of(kind, mask) {
-                Err(refusal) => Err(refusal),
-                Ok(why) => {
-                    let rule = Rule::Unblock(why);
-                    self.order_group(
-                        system,
-                        mask,
-                        rule,
-                        Grouped::Cgu,
-                        why,
-                        table,
-                        policy,
-                        words,
-                        octets,
-                    )
-                }
-            },
-        }
+        self.order_typed(
+            Rule::Unblock,
+            Grouped::Cgu,
+            kind,
+            system,
+            mask,
+            table,
+            policy,
+            words,
+            octets,
+        )
     }
 
     // Resets every circuit of a PCM system.
@@ -206,14 +179,10 @@ impl Trunk {
         words: &mut [u32],
         octets: &mut [u8],
     ) -> Result<(usize, usize), Refusal>
-        ensures done { Done self.config (group_resetting self.config P.Policy.PLACES system (lent table.old (P.Policy.held policy.old) words.old octets.old)) result (lent table.old (P.Policy.held policy.old) words.old octets.old) (lent table.new (P.Policy.held policy.new) words.new octets.new) }
-        ensures laws { Laws self.config (group_resetting self.config P.Policy.PLACES system (lent table.old (P.Policy.held policy.old) words.old octets.old)) (lent table.old (P.Policy.held policy.old) words.old octets.old) (lent table.new (P.Policy.held policy.new) words.new octets.new) }
-        ensures within { IfOk result (λ n. (n.0 ≤ length words.old) × (n.1 ≤ length octets.old)) }
+        ensures outcome { Outcome self.config (group_resetting self.config P.Policy.PLACES system) result (lent table.old (P.Policy.held policy.old) words.old octets.old) (lent table.new (P.Policy.held policy.new) words.new octets.new) }
         ensures alike { ResetAlike self.config system (group_resetting self.config P.Policy.PLACES system (lent table.old (P.Policy.held policy.old) words.old octets.old)) (lent table.old (P.Policy.held policy.old) words.old octets.old) (lent table.new (P.Policy.held policy.new) words.new octets.new) }
     {
-        match self.admit(P::PLACES, table.len(), words.len(), octets.len()) {
-            Err(refusal) => Err(refusal),
-            Ok(()) => self.clear(system, table, policy, words, octets),
-        }
+        self.admit(table, policy, words, octets)?;
+        self.clear(system, table, policy, words, octets)
     }
 }

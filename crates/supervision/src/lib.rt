@@ -8,6 +8,7 @@ mod judging;
 mod opening;
 mod seizing;
 mod single;
+mod slots;
 mod trunk;
 
 pub use trunk::{Config, Trunk};

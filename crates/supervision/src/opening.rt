@@ -18,12 +18,7 @@ fn is_equipment(word: u32) -> bool
 fn are_equipment(equipment: &[u32]) -> bool
     ensures { result ≡ are_equipment equipment.now }
 {
-    for word in equipment {
-        if !is_equipment(*word) {
-            return false;
-        }
-    }
-    true
+    equipment.iter().all(|word| is_equipment(*word))
 }
 
 // Whether these are the numbers of a trunk.
@@ -33,8 +28,7 @@ fn fits_trunk(first: Cic, equipment: &[u32], places: usize) -> bool
 {
     let systems = equipment.len();
     first.0 % 32 == 0
-        && systems >= 1
-        && systems <= 16
+        && (1..=16).contains(&systems)
         && first.0 as usize + systems * 32 <= 4096
         && places == systems * 32
         && are_equipment(equipment)
@@ -45,14 +39,12 @@ fn fill(equipment: &[u32], table: &mut [Circuit])
     requires { length table.old ≡ length equipment.now * 32 }
     ensures { table.new ≡ open_table equipment.now }
 {
-    for (system, word) in equipment.iter().enumerate() {
-        for slot in 0..32u32 {
-            table[system * 32 + slot as usize] = Circuit::fresh((*word >> slot) % 2 == 1);
-        }
+    for (place, circuit) in table.iter_mut().enumerate() {
+        *circuit = Circuit::fresh((equipment[place / 32] >> (place % 32)) % 2 == 1);
     }
 }
 
-// Withdraws every member.
+// Withdraws every member; the number counted is the place itself.
 fn withdraw_all<P: Policy>(policy: &mut P)
     ensures { (k : ℕ) → slice_index_or (P.Policy.held policy.new) k false ≡ false }
 {

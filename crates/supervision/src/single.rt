@@ -1,12 +1,13 @@
 // Orders for one circuit.
-ghost use Rattle.std.specs.Prelude.{◌≡◌, ◌*◌, ◌<◌, ◌≤◌, length, IfOk, None};
+ghost use Rattle.std.specs.Prelude.{◌≡◌, ◌<◌, ◌≤◌, length, None};
 ghost use Rattle.message.specs.Encode.{encode, refusal_of};
 ghost use Rattle.message.specs.Meaning.{meaning};
-ghost use Rattle.supervision.specs.Lending.{Done, lent};
-ghost use Rattle.supervision.specs.Laws.{Laws};
-ghost use Rattle.supervision.specs.Orders.{singly, blocking, unblocking, resetting, releasing};
+ghost use Rattle.message.specs.Msg.{single};
+ghost use Rattle.refusal.specs.Refusals.{and_then};
+ghost use Rattle.supervision.specs.Laws.{Outcome};
+ghost use Rattle.supervision.specs.Lending.{Suffices, lent};
+ghost use Rattle.supervision.specs.Orders.{admitted, singly, blocking, unblocking, resetting, releasing};
 
-use crate::effects::{send, visit};
 use crate::judging::cause_of;
 use crate::trunk::Trunk;
 use circuit::{Circuit, Reset, Rule};
@@ -27,23 +28,31 @@ impl Trunk {
         words: &mut [u32],
         octets: &mut [u8],
     ) -> Result<(usize, usize), Refusal>
-        requires table { length table.old ≡ self.config.systems * 32 }
-        requires places { length table.old ≤ P.Policy.PLACES }
-        requires words { 96 ≤ length words.old }
-        requires octets { 320 ≤ length octets.old }
+        requires enough { Suffices self.config P.Policy.PLACES (lent table.old (P.Policy.held policy.old) words.old octets.old) }
         requires writable { cic.0 < 4096 → refusal_of (meaning message) ≡ None }
         requires short { length (encode (meaning message)) ≤ 320 }
-        ensures done { Done self.config (singly self.config cic rule (meaning message.entry) table.old) result (lent table.old (P.Policy.held policy.old) words.old octets.old) (lent table.new (P.Policy.held policy.new) words.new octets.new) }
-        ensures laws { Laws self.config (singly self.config cic rule (meaning message.entry) table.old) (lent table.old (P.Policy.held policy.old) words.old octets.old) (lent table.new (P.Policy.held policy.new) words.new octets.new) }
-        ensures within { IfOk result (λ n. (n.0 ≤ length words.old) × (n.1 ≤ length octets.old)) }
+        ensures { Outcome self.config (λ before. singly self.config cic rule (meaning message.entry) before.table) result (lent table.old (P.Policy.held policy.old) words.old octets.old) (lent table.new (P.Policy.held policy.new) words.new octets.new) }
     {
-        match self.find(cic, rule, table) {
-            Err(refusal) => Err(refusal),
-            Ok(place) => {
-                let count = visit(self, place, rule, table, policy, words, 0);
-                Ok(send(message, words, count, octets, 0))
-            }
-        }
+        let place = self.find(cic, rule, table)?;
+        Ok(self.perform_at(place, rule, message, table, policy, words, octets))
+    }
+
+    // Does an order for one circuit whose message is its CIC alone.
+    fn order_single<P: Policy>(
+        self,
+        cic: Cic,
+        rule: Rule,
+        kind: Single,
+        table: &mut [Circuit],
+        policy: &mut P,
+        words: &mut [u32],
+        octets: &mut [u8],
+    ) -> Result<(usize, usize), Refusal>
+        ensures { Outcome self.config (λ before. and_then (admitted self.config P.Policy.PLACES before) (λ _. singly self.config cic rule (single cic.0 kind) before.table)) result (lent table.old (P.Policy.held policy.old) words.old octets.old) (lent table.new (P.Policy.held policy.new) words.new octets.new) }
+    {
+        self.admit(table, policy, words, octets)?;
+        let message = Message::Single(cic, kind);
+        self.order(cic, rule, message, table, policy, words, octets)
     }
 
     // Releases a call, with the location and the value of its cause.
@@ -57,22 +66,21 @@ impl Trunk {
         words: &mut [u32],
         octets: &mut [u8],
     ) -> Result<(usize, usize), Refusal>
-        ensures done { Done self.config (releasing self.config P.Policy.PLACES cic location value (lent table.old (P.Policy.held policy.old) words.old octets.old)) result (lent table.old (P.Policy.held policy.old) words.old octets.old) (lent table.new (P.Policy.held policy.new) words.new octets.new) }
-        ensures laws { Laws self.config (releasing self.config P.Policy.PLACES cic location value (lent table.old (P.Policy.held policy.old) words.old octets.old)) (lent table.old (P.Policy.held policy.old) words.old octets.old) (lent table.new (P.Policy.held policy.new) words.new octets.new) }
-        ensures within { IfOk result (λ n. (n.0 ≤ length words.old) × (n.1 ≤ length octets.old)) }
+        ensures { Outcome self.config (releasing self.config P.Policy.PLACES cic location value) result (lent table.old (P.Policy.held policy.old) words.old octets.old) (lent table.new (P.Policy.held policy.new) words.new octets.new) }
     {
-        match self.admit(P::PLACES, table.len(), words.len(), octets.len()) {
-            Err(refusal) => Err(refusal),
-            Ok(()) => match cause_of(location, value) {
-                Err(refusal) => Err(refusal),
-                Ok(cause) => {
-                    let pair = [cause.location, cause.value];
-                    let message = Message::Release(cic, &pair);
-                    let rule = Rule::Release(cause);
-                    self.order(cic, rule, message, table, policy, words, octets)
-                }
-            },
-        }
+        self.admit(table, policy, words, octets)?;
+        let cause = cause_of(location, value)?;
+        let pair = [cause.location, cause.value];
+        let message = Message::Release(cic, &pair);
+        self.order(
+            cic,
+            Rule::Release(cause),
+            message,
+            table,
+            policy,
+            words,
+            octets,
+        )
     }
 
     // Asks the far exchange to keep calls off a circuit, for maintenance.
@@ -84,18 +92,10 @@ impl Trunk {
         words: &mut [u32],
         octets: &mut [u8],
     ) -> Result<(usize, usize), Refusal>
-        ensures done { Done self.config (blocking self.config P.Policy.PLACES cic (lent table.old (P.Policy.held policy.old) words.old octets.old)) result (lent table.old (P.Policy.held policy.old) words.old octets.old) (lent table.new (P.Policy.held policy.new) words.new octets.new) }
-        ensures laws { Laws self.config (blocking self.config P.Policy.PLACES cic (lent table.old (P.Policy.held policy.old) words.old octets.old)) (lent table.old (P.Policy.held policy.old) words.old octets.old) (lent table.new (P.Policy.held policy.new) words.new octets.new) }
-        ensures within { IfOk result (λ n. (n.0 ≤ length words.old) × (n.1 ≤ length octets.old)) }
+        ensures { Outcome self.config (blocking self.config P.Policy.PLACES cic) result (lent table.old (P.Policy.held policy.old) words.old octets.old) (lent table.new (P.Policy.held policy.new) words.new octets.new) }
     {
-        match self.admit(P::PLACES, table.len(), words.len(), octets.len()) {
-            Err(refusal) => Err(refusal),
-            Ok(()) => {
-                let message = Message::Single(cic, Single::Blo);
-                let rule = Rule::Block(BlockType::Maintenance);
-                self.order(cic, rule, message, table, policy, words, octets)
-            }
-        }
+        let rule = Rule::Block(BlockType::Maintenance);
+        self.order_single(cic, rule, Single::Blo, table, policy, words, octets)
     }
 
     // Asks it to lift that block.
@@ -107,18 +107,10 @@ impl Trunk {
         words: &mut [u32],
         octets: &mut [u8],
     ) -> Result<(usize, usize), Refusal>
-        ensures done { Done self.config (unblocking self.config P.Policy.PLACES cic (lent table.old (P.Policy.held policy.old) words.old octets.old)) result (lent table.old (P.Policy.held policy.old) words.old octets.old) (lent table.new (P.Policy.held policy.new) words.new octets.new) }
-        ensures laws { Laws self.config (unblocking self.config P.Policy.PLACES cic (lent table.old (P.Policy.held policy.old) words.old octets.old)) (lent table.old (P.Policy.held policy.old) words.old octets.old) (lent table.new (P.Policy.held policy.new) words.new octets.new) }
-        ensures within { IfOk result (λ n. (n.0 ≤ length words.old) × (n.1 ≤ length octets.old)) }
+        ensures { Outcome self.config (unblocking self.config P.Policy.PLACES cic) result (lent table.old (P.Policy.held policy.old) words.old octets.old) (lent table.new (P.Policy.held policy.new) words.new octets.new) }
     {
-        match self.admit(P::PLACES, table.len(), words.len(), octets.len()) {
-            Err(refusal) => Err(refusal),
-            Ok(()) => {
-                let message = Message::Single(cic, Single::Ubl);
-                let rule = Rule::Unblock(BlockType::Maintenance);
-                self.order(cic, rule, message, table, policy, words, octets)
-            }
-        }
+        let rule = Rule::Unblock(BlockType::Maintenance);
+        self.order_single(cic, rule, Single::Ubl, table, policy, words, octets)
     }
 
     // Ends the call of a circuit, clears its blocks, and asks the far exchange to do the same.
@@ -130,17 +122,9 @@ impl Trunk {
         words: &mut [u32],
         octets: &mut [u8],
     ) -> Result<(usize, usize), Refusal>
-        ensures done { Done self.config (resetting self.config P.Policy.PLACES cic (lent table.old (P.Policy.held policy.old) words.old octets.old)) result (lent table.old (P.Policy.held policy.old) words.old octets.old) (lent table.new (P.Policy.held policy.new) words.new octets.new) }
-        ensures laws { Laws self.config (resetting self.config P.Policy.PLACES cic (lent table.old (P.Policy.held policy.old) words.old octets.old)) (lent table.old (P.Policy.held policy.old) words.old octets.old) (lent table.new (P.Policy.held policy.new) words.new octets.new) }
-        ensures within { IfOk result (λ n. (n.0 ≤ length words.old) × (n.1 ≤ length octets.old)) }
+        ensures { Outcome self.config (resetting self.config P.Policy.PLACES cic) result (lent table.old (P.Policy.held policy.old) words.old octets.old) (lent table.new (P.Policy.held policy.new) words.new octets.new) }
     {
-        match self.admit(P::PLACES, table.len(), words.len(), octets.len()) {
-            Err(refusal) => Err(refusal),
-            Ok(()) => {
-                let message = Message::Single(cic, Single::Rsc);
-                let rule = Rule::Reset(Reset::Single);
-                self.order(cic, rule, message, table, policy, words, octets)
-            }
-        }
+        let rule = Rule::Reset(Reset::Single);
+        self.order_single(cic, rule, Single::Rsc, table, policy, words, octets)
     }
 }

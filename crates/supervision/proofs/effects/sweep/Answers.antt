@@ -1,75 +1,99 @@
-use Rattle.std.proofs.Common.{◌≡◌, ℕ, ◌+◌, ◌*◌, ◌<◌, ◌≤◌, length, get_or, take, sym, ◌∙◌, add-zero, add_assoc, arith}
+use Rattle.std.proofs.Common.{List, ◌≡◌, ℕ, ◌+◌, ◌-◌, ◌*◌, ◌<◌, ◌≤◌, map, length, get_or, set, take, drop, sym, ap, ◌∙◌, add-zero, add_assoc, arith}
+use borrow.Rule.Slice.PartMut.{put_mid, put_same}
+use Rattle.std.proofs.lemmas.List.{set-get_or}
 use Rattle.circuit.specs.Circuits.{vacant}
+use Rattle.circuit.specs.declared.record.Circuit.{Circuit}
 use Rattle.circuit.specs.Orders.{applied}
 use Rattle.circuit.specs.Changes.{quiet}
+use Rattle.circuit.specs.Laws.{told_of}
+use Rattle.status.specs.declared.circuit.Cic.{Cic}
+use Rattle.told.specs.Words.{number_of}
+use Rattle.supervision.specs.Lending.{over}
 use Rattle.supervision.specs.Moves.{where_named, told_from}
-use Rattle.supervision.specs.Steps.{covers}
+use Rattle.supervision.specs.Steps.{named_by}
 use Rattle.supervision.specs.Trunks.{cic_at}
 use Rattle.supervision.proofs.Naming.{covers_below, covers_past, covers_in, unnamed, unequipped, acts}
 use Rattle.supervision.proofs.Stepping.{stands_from, stands_more, stands_skip, stands_all, told_short}
+use Rattle.supervision.proofs.Writing.{get_in_part, part_at, set_in_part}
 use Rattle.supervision.proofs.effects.sweep.Goals as goal
-use Rattle.supervision.proofs.effects.sweep.Goals.{then-is_set+then-table-place, else-is_set, else-is_set-via-then-is_set+else-table-place, else-is_set-via-else-is_set}
+use Rattle.supervision.proofs.effects.sweep.Goals.{then-names+then-circuit, else-names, else-names-via-then-names+else-circuit, else-names-via-else-names}
 
 pub loop-n-init : goal.loop-n-init
 loop-n-init g c =
-    let first = c.args.first.0 in
-    let named = covers first c.args.group.range.0 c.args.group.status.now in
-    let f = where_named named (λ _. applied c.args.rule) in (
-      rw (add-zero first)
+    let first = c.args.slots.first.0 in
+    let named = named_by c.args.slots in
+    let f = where_named named (λ _. applied c.args.rule) in
+    let k = first + c.args.slots.group.range.0 + 1 - first in (
+      rw (add-zero first, put_same first k c.args.table.now)
           (stands_from c.args.trunk.config f first c.args.table.now (g.P.Policy.held c.args.policy.now) c.args.words.now (omega arith)
-          (λ j a b x. unnamed named (λ _. applied c.args.rule) j x (covers_below first c.args.group.range.0 c.args.group.status.now j (omega arith)))),
+          (λ j a b x. unnamed named (λ _. applied c.args.rule) j x (covers_below first c.args.slots.group.range.0 c.args.slots.group.status.now j (omega arith)))),
       omega arith,
     )
 
 pub loop-n-preserved : goal.loop-n-preserved
 loop-n-preserved g c =
-    let first = c.args.first.0 in
-    let k = first + c.loop-n.n in
-    let named = covers first c.args.group.range.0 c.args.group.status.now in
+    let first = c.args.slots.first.0 in
+    let t = c.args.trunk.config in
+    let n = c.loop-n.n in
+    let k = first + n in
+    let T = c.args.table.now in
+    let named = named_by c.args.slots in
     let rule = λ (_ : ℕ). applied c.args.rule in
     let f = where_named named rule in
-    let x = get_or c.loop-n.table k vacant in
+    let L = c.loop-n.circuits in
+    let x = get_or L n vacant in
     let W = c.args.words.now in
-    let in-range : k < length c.args.table.now = omega arith in
-    let few : length (told_from c.args.trunk.config f 0 (take k c.args.table.now)) ≤ c.loop-n.n * 2 = rw (← c.loop-n.invariant.0.3) c.loop-n.invariant.1 in
-    let is : c.is_set.result ≡ named k = c.is_set.ensures ∙ sym (covers_in first c.args.group.range.0 c.args.group.status.now c.loop-n.n) in
-    rw (← add_assoc first c.loop-n.n 1)
-    (elim c.if-is_set.branch [
-      | then-is_set+then-table-place w ↦
-          let e : f k x ≡ applied c.args.rule x = acts named rule k x (sym is ∙ w.if-is_set.true) w.if-table-place.true in
-          let short = told_short (cic_at c.args.trunk.config k) (applied c.args.rule x) in (
-            rw (w.table-is, w.policy-is, w.words-is, w.count-is)
-                (stands_more c.args.trunk.config f k c.args.table.now (g.P.Policy.held c.args.policy.now) W
-                c.loop-n.table w.visit-count.new.table (g.P.Policy.held c.loop-n.policy) (g.P.Policy.held w.visit-count.new.policy)
-                c.loop-n.words w.visit-count.new.words c.loop-n.count w.visit-count.result
+    let within = λ (ys : List Circuit). put_mid first (first + c.args.slots.group.range.0 + 1 - first) T ys in
+    let at : get_or (within L) k vacant ≡ x = get_in_part first (first + c.args.slots.group.range.0 + 1 - first) T L n vacant (omega arith) (omega arith) in
+    let in-range : k < length T = omega arith in
+    let few : length (told_from t f 0 (take k T)) ≤ n * 2 = rw (← c.loop-n.invariant.0.3) c.loop-n.invariant.1 in
+    let is : c.names.result ≡ named k = c.names.ensures ∙ sym (covers_in first c.args.slots.group.range.0 c.args.slots.group.status.now n) in
+    rw (← add_assoc first n 1)
+    (elim c.if-names.branch [
+      | then-names+then-circuit w ↦
+          let e : f k x ≡ applied c.args.rule x = acts named rule k x (sym is ∙ w.if-names.true) w.if-circuit.true in
+          let short = told_short (cic_at t k) (applied c.args.rule x) in
+          let told = told_of (cic_at t k) (applied c.args.rule x) in
+          let count : w.visit-count.result ≡ length told = w.visit-count.ensures.count ∙ ap (λ (z : Cic). length (told_of z (applied c.args.rule x))) w.cic_at.ensures in
+          let rest = take (length c.loop-n.words - c.loop-n.count) (drop c.loop-n.count c.loop-n.words) in
+          let words = w.visit-count.ensures.words ∙ ap (λ (z : Cic). over (map number_of (told_of z (applied c.args.rule x))) rest) w.cic_at.ensures in
+          let table = set_in_part first (first + c.args.slots.group.range.0 + 1 - first) T L n w.visit-count.new.circuit (omega arith) (omega arith) ∙ ap (set (within L) k) w.visit-count.ensures.circuit in (
+            rw (w.circuits-is, w.policy-is, w.words-is, w.count-is)
+                (stands_more t f k T (g.P.Policy.held c.args.policy.now) W
+                (within L) (within (set L n w.visit-count.new.circuit)) (g.P.Policy.held c.loop-n.policy) (g.P.Policy.held w.visit-count.new.policy)
+                c.loop-n.words _ c.loop-n.count (c.loop-n.count + w.visit-count.result)
                 c.loop-n.invariant.0 in-range
-                (rw e (omega arith))
-                (rw e w.visit-count.ensures.table) (rw e w.visit-count.ensures.held) (rw e w.visit-count.ensures.words) (rw e w.visit-count.ensures.count)),
-            omega (arith, w.count-is, w.visit-count.ensures.count),
+                (rw (at, e) (omega arith))
+                (rw (at, e) table) (rw (at, e) w.visit-count.ensures.held)
+                (rw (at, e) (part_at c.loop-n.count (map number_of told) c.loop-n.words w.visit-count.new.words (omega arith) words))
+                (rw (at, e) (ap (λ (z : ℕ). c.loop-n.count + z) count))),
+            omega (arith, w.count-is, count),
           )
-      | else-is_set w ↦
+      | else-names w ↦
           let q : f k x ≡ quiet x =
-          elim w.else-is_set.branch [
-            | else-is_set-via-then-is_set+else-table-place v ↦ unequipped named rule k x v.if-table-place.false
-            | else-is_set-via-else-is_set v ↦ unnamed named rule k x (sym is ∙ v.if-is_set.false)
+          elim w.else-names.branch [
+            | else-names-via-then-names+else-circuit v ↦ unequipped named rule k x v.if-circuit.false
+            | else-names-via-else-names v ↦ unnamed named rule k x (sym is ∙ v.if-names.false)
+          ] in
+          let same : w.else-names.circuits ≡ L =
+          elim w.else-names.branch [
+            | else-names-via-then-names+else-circuit v ↦ v.circuits-is ∙ set-get_or L n vacant
+            | else-names-via-else-names v ↦ v.circuits-is ∙ set-get_or L n vacant
           ] in (
-            rw (w.table-is, w.policy-is, w.words-is, w.count-is)
-                (stands_skip c.args.trunk.config f k c.args.table.now (g.P.Policy.held c.args.policy.now) W
-                c.loop-n.table (g.P.Policy.held c.loop-n.policy) c.loop-n.words c.loop-n.count
-                c.loop-n.invariant.0 in-range (omega arith) q),
+            rw (w.circuits-is, same, w.policy-is, w.words-is, w.count-is)
+                (stands_skip t f k T (g.P.Policy.held c.args.policy.now) W
+                (within L) (g.P.Policy.held c.loop-n.policy) c.loop-n.words c.loop-n.count
+                c.loop-n.invariant.0 in-range (omega arith) (rw at q)),
             omega (arith, w.count-is),
           )
     ])
 
-pub returns : goal.returns
-returns g c =
-    let first = c.args.first.0 in
-    let named = covers first c.args.group.range.0 c.args.group.status.now in
+pub returns-clause-all : goal.returns-clause-all
+returns-clause-all g c =
+    let first = c.args.slots.first.0 in
+    let named = named_by c.args.slots in
     let f = where_named named (λ _. applied c.args.rule) in
-    record {
-      all = stands_all c.args.trunk.config f (first + c.loop-n.n) c.args.table.now (g.P.Policy.held c.args.policy.now) c.args.words.now
-          c.loop-n.table (g.P.Policy.held c.loop-n.policy) c.loop-n.words c.loop-n.count
-          c.loop-n.invariant.0 (omega arith)
-          (λ j a x. unnamed named (λ _. applied c.args.rule) j x (covers_past first c.args.group.range.0 c.args.group.status.now j (omega arith)));
-      few = omega arith;
-    }
+    stands_all c.args.trunk.config f (first + c.loop-n.n) c.args.table.now (g.P.Policy.held c.args.policy.now) c.args.words.now
+    _ (g.P.Policy.held c.loop-n.policy) c.loop-n.words c.loop-n.count
+    c.loop-n.invariant.0 (omega arith)
+    (λ j a x. unnamed named (λ _. applied c.args.rule) j x (covers_past first c.args.slots.group.range.0 c.args.slots.group.status.now j (omega arith)))

@@ -1,12 +1,14 @@
-use Rattle.std.proofs.Common.{◌+◌, ◌*◌, ◌≤◌}
+use Rattle.std.proofs.Common.{◌+◌, ◌-◌, ◌*◌, ◌≤◌}
+use borrow.Rule.Slice.PartMut.{put_mid}
 use Rattle.circuit.specs.Orders.{applied}
 use Rattle.supervision.specs.Moves.{where_named}
-use Rattle.supervision.specs.Steps.{covers}
+use Rattle.supervision.specs.Steps.{named_by}
 use Rattle.supervision.proofs.Stepping.{Stands}
 use Rattle.supervision.proofs.effects.sweep.Given as goal
 
 abbrev pub invariant-loop-n : goal.invariant-loop-n
 invariant-loop-n g l =
-    Stands l.trunk.config (where_named (covers l.first.0 l.group.range.0 l.group.status.now) (λ _. applied l.rule)) (l.first.0 + l.n)
-    l.initial.table (g.P.Policy.held l.initial.policy) l.initial.words l.table (g.P.Policy.held l.policy) l.words l.count
+    Stands l.trunk.config (where_named (named_by l.slots) (λ _. applied l.rule)) (l.slots.first.0 + l.n)
+    l.fn.table (g.P.Policy.held l.initial.policy) l.initial.words
+    (put_mid l.slots.first.0 (l.slots.first.0 + l.slots.group.range.0 + 1 - l.slots.first.0) l.fn.table l.circuits) (g.P.Policy.held l.policy) l.words l.count
     × (l.count ≤ l.n * 2)

@@ -1,17 +1,17 @@
-use Rattle.std.proofs.Common.{◌≡◌, ℕ, ◌+◌, ◌*◌, Bool, false, leb, Ok, refl, ap, ◌∙◌, add_assoc, arith}
+use Rattle.std.proofs.Common.{◌≡◌, ℕ, ◌+◌, ◌*◌, Bool, false, leb, Ok, refl, ap, ◌∙◌, subst, add_assoc, arith}
 use Rattle.std.proofs.lemmas.Bool.{lt-leb}
 use Rattle.message.specs.Msg.{Msg, group_reset}
 use Rattle.circuit.proofs.Keeping.{order_keeps}
 use Rattle.circuit.specs.declared.record.Reset.TheVariants as reset
 use Rattle.circuit.specs.declared.rules.Rule.TheVariants.{Reset}
 use Rattle.supervision.specs.Laws.{placed}
-use Rattle.supervision.specs.Lending.{Lent, lent, counts_of, carried}
+use Rattle.supervision.specs.Lending.{Lent, Performed, lent}
 use Rattle.supervision.specs.Moves.{Move}
-use Rattle.supervision.specs.Orders.{ordered, slots, every_slot, status_of}
+use Rattle.supervision.specs.Orders.{clearing, ordered, slots, every_slot, status_of}
 use Rattle.supervision.specs.Steps.{covers}
 use Rattle.supervision.specs.Trunks.{first_of}
 use Rattle.supervision.proofs.Alike.{resets_alike}
-use Rattle.supervision.proofs.Keeping.{lawful}
+use Rattle.supervision.proofs.Keeping.{outcome_of}
 use Rattle.supervision.proofs.Masks.{named-slots}
 use Rattle.supervision.proofs.trunk.Trunk.clear.Goals as goal
 
@@ -24,17 +24,17 @@ returns g c =
     let rule = Reset reset.Group in
     let move = ordered (slots system every_slot) rule msg in
     let before = lent T (g.P.Policy.held c.args.policy.now) c.args.words.now c.args.octets.now in
+    let after = lent c.perform.new.table (g.P.Policy.held c.perform.new.policy) c.perform.new.words c.perform.new.octets in
     let far : leb t.systems system ≡ false = lt-leb t.systems system (omega arith) in
     let sent : group_reset (t.first.0 + (system * 32 + 1)) 30 ≡ msg = rw (add_assoc t.first.0 (system * 32) 1) in
     let names = named-slots system every_slot refl in
     let covered = covers (system * 32 + 1) 30 (status_of every_slot) in
     let all : ordered covered rule (group_reset (t.first.0 + (system * 32 + 1)) 30) ≡ move =
     ap (λ (m : Msg). ordered covered rule m) sent ∙ ap (λ (f : ℕ → Bool). ordered f rule msg) names in
-    let after = c.perform.ensures.after ∙ ap (λ (m : Move). carried t m before) all in
-    rw far
-    (record {
-      done = (ap Ok (c.perform.ensures.counts ∙ ap (λ (m : Move). counts_of t m before) all), after);
-      laws = rw after (lawful t move before (rw (g.met.P.Policy.sized c.args.policy.now) c.requires.places) (λ k n e. order_keeps rule (placed T k) refl));
-      within = c.perform.ensures.within;
-      alike = λ k n message one h. ap (λ (y : Lent). placed y.table k) after ∙ resets_alike t system msg T k n message one h;
-    })
+    let done = subst (λ (m : Move). Performed t m c.perform.result before after) all (rw c.cic_at.ensures at c.perform.ensures) in
+    let a : clearing t system ≡ Ok move = rw far refl in
+    record {
+      outcome = outcome_of t (λ (_ : Lent). clearing t system) move c.perform.result before after
+          (rw (g.met.P.Policy.sized c.args.policy.now) c.requires.enough.places) (λ k n e. order_keeps rule (placed T k) refl) a done;
+      alike = rw a (λ k n message one h. ap (λ (y : Lent). placed y.table k) done.carries ∙ resets_alike t system msg T k n message one h);
+    }

@@ -1,49 +1,55 @@
-use Rattle.std.proofs.Common.{◌≡◌, ◌+◌, ◌*◌, ◌%◌, Ok, Err, refl, ap, ◌∙◌, add_assoc, arith}
+use Rattle.std.proofs.Common.{◌≡◌, ◌+◌, ◌*◌, ◌%◌, Ok, Err, refl, subst, add_assoc, arith}
+use Rattle.std.proofs.lemmas.Result.{err_from_is_err_and}
 use Rattle.message.specs.Meaning.{indicator_of}
 use Rattle.message.specs.Msg.{Msg, grouped}
-use Rattle.supervision.specs.Lending.{lent, Done, counts_of, carried}
+use Rattle.supervision.specs.Laws.{Outcome}
+use Rattle.supervision.specs.Lending.{Lent, Performed, lent}
 use Rattle.supervision.specs.Orders.{groupwise, status_of, ordered}
 use Rattle.supervision.specs.Steps.{covers}
 use Rattle.supervision.specs.Trunks.{first_of}
 use Rattle.supervision.proofs.Alike.{group_order}
 use Rattle.supervision.proofs.Allowing.{groupwise_allowed}
 use Rattle.supervision.proofs.Grouping.{group_answer}
-use Rattle.supervision.proofs.Keeping.{laws_of}
+use Rattle.supervision.proofs.Keeping.{outcome_of, outcome_refused}
 use Rattle.supervision.proofs.trunk.Trunk.order_group.Goals as goal
 
-pub returns-in-Err : goal.returns-in-Err
-returns-in-Err g c =
-    let t = c.args.self.config in
-    let msg = grouped (first_of t c.args.system) c.args.what (indicator_of c.args.why) 30 (status_of c.args.mask) in
-    let even : c.args.mask % 2 ≡ 0 = omega arith in
-    let a = group_answer t c.args.system c.args.mask c.args.rule msg c.args.table.now c.to_le_bytes-status.result (Err c.in-Err.refusal)
-    (omega arith) even c.to_le_bytes-status.ensures c.in-Err.ensures in
-    rw a (record { done = (refl, refl); laws = refl; within = tt; group = refl })
-
-pub returns-in-Ok : goal.returns-in-Ok
-returns-in-Ok g c =
+pub returns-in_err-judge : goal.returns-in_err-judge
+returns-in_err-judge g c =
     let t = c.args.self.config in
     let T = c.args.table.now in
     let msg = grouped (first_of t c.args.system) c.args.what (indicator_of c.args.why) 30 (status_of c.args.mask) in
     let even : c.args.mask % 2 ≡ 0 = omega arith in
-    let a : groupwise t c.args.system c.args.mask c.args.rule msg T ≡ Ok (ordered (covers (c.args.system * 32 + 1) 30 c.to_le_bytes-status.result) c.args.rule msg) =
-    group_answer t c.args.system c.args.mask c.args.rule msg T c.to_le_bytes-status.result (Ok tt)
-    (omega arith) even c.to_le_bytes-status.ensures c.in-Ok.ensures in
+    let p = err_from_is_err_and c.from_residual.result c.from_residual.ensures.1 in
+    let a : groupwise t c.args.system c.args.mask c.args.rule msg T ≡ Err p.0 =
+    rw p.2 (group_answer t c.args.system c.args.mask c.args.rule msg T c.to_le_bytes-status.result (Err c.in_err-judge.field-0.0)
+    (omega arith) even c.to_le_bytes-status.ensures c.in_err-judge.ensures) in
+    record {
+      outcome = outcome_refused t (λ (b : Lent). groupwise t c.args.system c.args.mask c.args.rule msg b.table) p.0 c.from_residual.result
+          (lent T (g.P.Policy.held c.args.policy.now) c.args.words.now c.args.octets.now) a p.1;
+      group = rw a refl;
+    }
+
+pub returns : goal.returns
+returns g c =
+    let t = c.args.self.config in
+    let T = c.args.table.now in
+    let msg = grouped (first_of t c.args.system) c.args.what (indicator_of c.args.why) 30 (status_of c.args.mask) in
+    let even : c.args.mask % 2 ≡ 0 = omega arith in
     let named = covers (c.args.system * 32 + 1) 30 c.to_le_bytes-status.result in
+    let m = ordered named c.args.rule msg in
+    let a : groupwise t c.args.system c.args.mask c.args.rule msg T ≡ Ok m =
+    group_answer t c.args.system c.args.mask c.args.rule msg T c.to_le_bytes-status.result (Ok tt)
+    (omega arith) even c.to_le_bytes-status.ensures c.in_ok-judge.ensures in
     let before = lent T (g.P.Policy.held c.args.policy.now) c.args.words.now c.args.octets.now in
     let after = lent c.perform.new.table (g.P.Policy.held c.perform.new.policy) c.perform.new.words c.perform.new.octets in
     let sent : grouped (t.first.0 + (c.args.system * 32 + 1)) c.args.what (indicator_of c.args.why) 30 c.to_le_bytes-status.result ≡ msg =
     rw (c.to_le_bytes-status.ensures, add_assoc t.first.0 (c.args.system * 32) 1) refl in
-    let d : Done t (groupwise t c.args.system c.args.mask c.args.rule msg T) (Ok c.perform.result) before after =
-    rw a (
-      ap Ok (c.perform.ensures.counts ∙ ap (λ (m : Msg). counts_of t (ordered named c.args.rule m) before) sent),
-      c.perform.ensures.after ∙ ap (λ (m : Msg). carried t (ordered named c.args.rule m) before) sent,
-    ) in
+    let outcome : Outcome t (λ (b : Lent). groupwise t c.args.system c.args.mask c.args.rule msg b.table) (Ok c.perform.result) before after =
+    outcome_of t (λ (b : Lent). groupwise t c.args.system c.args.mask c.args.rule msg b.table) m c.perform.result before after
+    (rw (g.met.P.Policy.sized c.args.policy.now) c.requires.enough.places)
+    (groupwise_allowed t c.args.system c.args.mask c.args.rule msg T m a) a
+    (subst (λ (x : Msg). Performed t (ordered named c.args.rule x) c.perform.result before after) sent (rw c.cic_at-cic.ensures at c.perform.ensures)) in
     record {
-      done = d;
-      within = c.perform.ensures.within;
-      laws = laws_of t (groupwise t c.args.system c.args.mask c.args.rule msg T) (Ok c.perform.result) before after
-          (rw (g.met.P.Policy.sized c.args.policy.now) c.requires.places)
-          (groupwise_allowed t c.args.system c.args.mask c.args.rule msg T) d;
-      group = group_order t c.args.system c.args.mask c.args.rule msg before after (Ok c.perform.result) d;
+      outcome = outcome;
+      group = group_order t c.args.system c.args.mask c.args.rule msg before after (Ok c.perform.result) outcome.done;
     }

@@ -1,0 +1,55 @@
+// Circuits of the table that a status names.
+ghost use Rattle.std.specs.Prelude.{◌≡◌, ℕ, ◌+◌, ◌<◌, Bool, not, ◌&&◌, length, Ok};
+ghost use Rattle.circuit.specs.Laws.{allows};
+ghost use Rattle.refusal.specs.Refusals.{unless};
+ghost use Rattle.refusal.specs.declared.reasons.Refusal.TheVariants.{Address, State};
+ghost use Rattle.status.specs.Bits.{is_named};
+ghost use Rattle.supervision.specs.Moves.{some_from};
+ghost use Rattle.supervision.specs.Steps.{named_by};
+
+use circuit::{Circuit, Rule};
+use policy::Place;
+use refusal::Refusal;
+use status::Group;
+
+// A status, and the place of the first circuit of its range.
+#[derive(Clone, Copy)]
+pub(crate) struct Slots<'a> {
+    pub(crate) first: Place,
+    pub(crate) group: Group<'a>,
+}
+
+impl Slots<'_> {
+    // Whether they name the n-th circuit of the range.
+    pub(crate) fn names(self, n: u8) -> bool
+        ensures { result ≡ is_named self.entry.group.range.0 self.entry.group.status.now n }
+    {
+        self.group.is_set(n)
+    }
+
+    // Whether each named circuit passes a test.
+    fn all<F: Fn(Circuit) -> bool>(self, passes: F, table: &[Circuit]) -> bool
+        requires callable { F.IsAlwaysCallable passes }
+        requires inside { self.first.0 + self.group.range.0 < length table.now }
+        ensures { (p : Circuit → Bool) → ((c : Circuit) (r : Bool) → F.post passes c r → r ≡ p c) → result ≡ not (some_from (λ k c. named_by self.entry k && not (p c)) 0 table.now) }
+    {
+        table[self.first.0..=self.first.0 + self.group.range.0 as usize]
+            .iter()
+            .enumerate()
+            .all(|(n, circuit)| !self.names(n as u8) || passes(*circuit))
+    }
+
+    // Whether an order may name them.
+    pub(crate) fn judge(self, rule: Rule, table: &[Circuit]) -> Result<(), Refusal>
+        requires { self.first.0 + self.group.range.0 < length table.now }
+        ensures { result ≡ unless (some_from (λ k c. named_by self.entry k && not c.equipped) 0 table.now) Address (unless (some_from (λ k c. named_by self.entry k && not (allows rule c)) 0 table.now) State (Ok tt)) }
+    {
+        if !self.all(|circuit| circuit.equipped, table) {
+            return Err(Refusal::Address);
+        }
+        if !self.all(|circuit| rule.allows(circuit), table) {
+            return Err(Refusal::State);
+        }
+        Ok(())
+    }
+}
