@@ -139,8 +139,7 @@ impl fmt::Display for Standing {
         write!(
             f,
             "circuit {cic}: {call}, maintenance {}, hardware {}, ",
-            local.maintenance,
-            local.hardware
+            local.maintenance, local.hardware
         )?;
         write!(
             f,
