@@ -72,15 +72,8 @@ impl Trunk {
         let cause = cause_of(location, value)?;
         let pair = [cause.location, cause.value];
         let message = Message::Release(cic, &pair);
-        self.order(
-            cic,
-            Rule::Release(cause),
-            message,
-            table,
-            policy,
-            words,
-            octets,
-        )
+        let rule = Rule::Release(cause);
+        self.order(cic, rule, message, table, policy, words, octets)
     }
 
     // Asks the far exchange to keep calls off a circuit, for maintenance.
