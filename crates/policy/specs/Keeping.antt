@@ -30,23 +30,27 @@ from_lines e ls ms ns os zs p q r ((l, m, o), a, b) = rw (p, q, r) (m, o, a, b)
 pub same_mark : (bs : List Bool) (k : ℕ) (b : Bool) → slice_index_or bs k false ≡ b → bs ≡ slice_set bs k b
 same_mark bs k b e = sym (ap (λ (v : Bool). set bs k v) (sym e) ∙ set-get_or bs k false)
 
--- an end is no place
-end_past : (b : Bool) → 512 ≤ cond b 512 513
-end_past true = omega arith
-end_past false = omega arith
-
 pub offer_new : (e : Bool) (ls ls' : List Link) (p end : ℕ) → length ls ≡ 514 → p < 512 → slice_index_or (marks ls) p false ≡ false → end ≡ end_for e p →
-    newers ls' ≡ slice_set (slice_set (newers ls) (slice_index (olders ls) end) p) p end → olders ls' ≡ slice_set (slice_set (olders ls) p (slice_index (olders ls) end)) end p →
+    newers ls' ≡ slice_set (slice_set (newers ls) (slice_index (olders ls) end) p) p end → olders ls' ≡ slice_set (slice_set (olders ls) end p) p (slice_index (olders ls) end) →
     marks ls' ≡ slice_set (marks ls) p true → (zs : List ℕ) → Ordered e ls zs → Ordered e ls' (offered p zs)
 offer_new e ls ls' p end l h f q a b c zs o =
     let n = field_length (λ (k : Link). k.newer) ls in
     let d = field_length (λ (k : Link). k.older) ls in
     let out : has zs p ≡ false = sym (o.0 p) ∙ f in
     let w : offered p zs ≡ zs ++ p ∷ [] = grind (arith, nat_tests) in
-    let past : 512 ≤ end = rw q (end_past (controlled e p)) in
-    let d' : olders ls' ≡ slice_set (slice_set (olders ls) end p) p (slice_index (olders ls) end) = b ∙ set_comm (olders ls) p end _ _ (λ r. omega arith) in
-    rw w (from_lines e ls' _ _ _ (zs ++ p ∷ []) c (rw q at a) (rw q at d')
+    rw w (from_lines e ls' _ _ _ (zs ++ p ∷ []) c (rw q at a) (rw q at b)
     (lines_push e (marks ls) (newers ls) (olders ls) zs p _ (omega arith) (omega arith) h out refl (to_lines e ls zs l o)))
+
+-- an end is no place
+end_past : (b : Bool) → 512 ≤ cond b 512 513
+end_past true = omega arith
+end_past false = omega arith
+
+-- so it does not matter which of the two is written first
+pub end_first : (e : Bool) (p end x y : ℕ) (ns : List ℕ) → p < 512 → end ≡ end_for e p → slice_set (slice_set ns p x) end y ≡ slice_set (slice_set ns end y) p x
+end_first e p end x y ns h q =
+    let past : 512 ≤ end = rw q (end_past (controlled e p)) in
+    set_comm ns p end x y (λ r. omega arith)
 
 pub offer_member : (e : Bool) (ls ls' : List Link) (p : ℕ) → slice_index_or (marks ls) p false ≡ true → newers ls' ≡ newers ls → olders ls' ≡ olders ls →
     marks ls' ≡ slice_set (marks ls) p true → (zs : List ℕ) → Ordered e ls zs → Ordered e ls' (offered p zs)

@@ -1,6 +1,6 @@
 use Rattle.std.proofs.Common.{◌≡◌, true, get_or, set, sym, ◌∙◌, arith}
 use Rattle.std.proofs.lemmas.List.{set_past}
-use Rattle.policy.specs.Keeping.{marks-length, offer_new, offer_member, offer_past}
+use Rattle.policy.specs.Keeping.{marks-length, end_first, offer_new, offer_member, offer_past}
 use Rattle.policy.specs.Orders.{marks, newers, olders}
 use Rattle.policy.proofs.links.Links.offer.Goals as goal
 
@@ -13,7 +13,8 @@ returns-then-not-linked c =
     let q = c.mark.ensures in
     let m : marks c.append.new.self.links ≡ set (marks ls) at true = p.marks ∙ q.marks in
     let n : newers c.append.new.self.links ≡ set (set (newers ls) (get_or (olders ls) end 0) at) at end = cc in
-    let o : olders c.append.new.self.links ≡ set (set (olders ls) at (get_or (olders ls) end 0)) end at = cc in
+    let swap = end_first c.args.even at end (get_or (olders ls) end 0) at (olders ls) c.if-at-lt512.true c.end_for.ensures in
+    let o : olders c.append.new.self.links ≡ set (set (olders ls) end at) at (get_or (olders ls) end 0) = cc in
     record {
       set = m;
       order = offer_new c.args.even ls _ at end c.args.self.now.ok c.if-at-lt512.true (sym c.if-not-linked.ensures) c.end_for.ensures n o m;
