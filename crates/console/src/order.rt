@@ -35,7 +35,7 @@ pub struct Slots {
     pub mask: u32,
 }
 
-// What an open trunk is told to do.
+// What an open trunk is told to do. An enum and no closure, since an order is read whole before anything is done.
 #[derive(Drop)]
 pub enum Operation {
     // with the body of the IAM
@@ -125,6 +125,7 @@ fn read_opening(
     })))
 }
 
+// An Option, as of every part of an order: nobody would read the error of a `TryFrom`. So with the method.
 fn read_side(side: &[u8]) -> Option<bool> {
     match side {
         b"higher" => Some(true),

@@ -11,7 +11,7 @@ use told::Word;
 
 #[derive(Clone, Copy)]
 pub enum Answer {
-    // how many words and octets the outputs then have
+    // how many words and octets the outputs then have, which stay in the desk and are lent to each operation
     Done(usize, usize),
     Shown(Cic, Circuit),
     Refused(Refusal),
@@ -153,6 +153,7 @@ impl fmt::Display for Standing {
     }
 }
 
+// A `bool` is printed otherwise, and is no type of ours.
 fn yes_no(blocked: bool) -> &'static str {
     if blocked { "yes" } else { "no" }
 }

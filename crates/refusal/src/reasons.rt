@@ -55,7 +55,8 @@ impl Refusal {
         }
     }
 
-    // The type octet of the message that was refused.
+    // The type octet of the message that was refused. Number and octet are asked of a message's fault too, which is another
+    // type: there are twelve refusals, one of them for two faults of room.
     pub fn type_octet(self) -> Option<u8>
         ensures { result ≡ type_in self }
     {

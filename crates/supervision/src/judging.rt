@@ -73,9 +73,5 @@ pub(crate) fn type_of(kind: u8, mask: u32) -> Result<BlockType, Refusal>
     if mask == 0 {
         return Err(Refusal::Argument);
     }
-    match kind {
-        0 => Ok(BlockType::Maintenance),
-        1 => Ok(BlockType::Hardware),
-        _ => Err(Refusal::Argument),
-    }
+    BlockType::try_from(kind).map_err(|_| Refusal::Argument)
 }

@@ -35,12 +35,15 @@ fn fits_trunk(first: Cic, equipment: &[u32], places: usize) -> bool
 }
 
 // Fills the table: idle, no blocks, no reset, cause octets 0.
+// Goes by the equipment words, and by the number of each bit, which is the time slot.
 fn fill(equipment: &[u32], table: &mut [Circuit])
     requires { length table.old ≡ length equipment.now * 32 }
     ensures { table.new ≡ open_table equipment.now }
 {
-    for (place, circuit) in table.iter_mut().enumerate() {
-        *circuit = Circuit::fresh((equipment[place / 32] >> (place % 32)) % 2 == 1);
+    for (system, word) in equipment.iter().enumerate() {
+        for slot in 0..32 {
+            table[system * 32 + slot] = Circuit::fresh((*word >> slot) % 2 == 1);
+        }
     }
 }
 

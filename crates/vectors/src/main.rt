@@ -20,6 +20,7 @@ fn begins(text: &[u8], said: &[u8]) -> bool {
 
 // Whether the message, written again, is explained alike.
 fn again(heap: Global, message: Message<'_>, words: &[u8]) -> Result<bool, AllocError> {
+    // `write` has no heap: it is lent octets, and answers how many it wrote
     let mut out = [0xff; 64];
     match write(message, &mut out) {
         Ok(n) if n <= out.len() => {
