@@ -1,6 +1,4 @@
 // A policy of either method.
-ghost use Rattle.std.specs.Prelude.{◌≡◌};
-ghost use Rattle.policy.specs.Orders.{marks};
 ghost use Rattle.console.specs.Selections.{held_by, held_by-length};
 
 use crate::order::Method;

@@ -6,7 +6,7 @@ use status::ParamFault;
 use std::error::Error;
 use std::fmt;
 
-// Layout, limit and unknown type carry the type octet as a number, as it was received.
+// Layout, limit and unknown type carry the type octet as a number, since one that is not listed has no kind.
 #[derive(Clone, Copy, PartialEq, Eq, Debug)]
 pub enum MessageFault {
     // The output is shorter than the message.

@@ -1,4 +1,4 @@
--- The steps that the code takes, one place or one word at a time.
+-- The steps that the code takes, one place at a time.
 use Rattle.std.specs.Prelude.{◌≡◌, ℕ, ◌-◌, Bool, true, false, ◌&&◌, List, map, length, nat_le, slice_set}
 use Rattle.status.specs.Bits.{is_named}
 use Rattle.told.specs.Words.{number_of}

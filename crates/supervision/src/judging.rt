@@ -1,5 +1,5 @@
 // What an order is refused for, before anything is changed.
-ghost use Rattle.std.specs.Prelude.{◌≡◌, ◌+◌, ◌-◌, ◌*◌, ◌<◌, ◌≤◌, true, not, ◌&&◌, length, get_or, IfOk, Ok, OnOk, ◌==◌, nat_lt, slice_index_or};
+ghost use Rattle.std.specs.Prelude.{◌≡◌, ◌+◌, ◌-◌, ◌*◌, ◌<◌, ◌≤◌, true, not, length, get_or, IfOk, Ok, OnOk, ◌==◌};
 ghost use Rattle.circuit.specs.Circuits.{vacant};
 ghost use Rattle.circuit.specs.Laws.{allows};
 ghost use Rattle.supervision.specs.Lending.{Suffices, lent};

@@ -1,5 +1,5 @@
 // Circuits of the table that a status names.
-ghost use Rattle.std.specs.Prelude.{◌≡◌, ℕ, ◌+◌, ◌<◌, Bool, not, ◌&&◌, length, Ok};
+ghost use Rattle.std.specs.Prelude.{◌≡◌, ◌+◌, ◌<◌, Bool, not, ◌&&◌, length, Ok};
 ghost use Rattle.circuit.specs.Laws.{allows};
 ghost use Rattle.refusal.specs.Refusals.{unless};
 ghost use Rattle.refusal.specs.declared.reasons.Refusal.TheVariants.{Address, State};
