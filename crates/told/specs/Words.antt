@@ -71,14 +71,14 @@ number_of (Begun way cic) = 0x2000_0000 + incoming way * 4096 + cic.0 % 4096
 number_of (Ended cause cic) = 0x3000_0000 + cause_number cause * 4096 + cic.0 % 4096
 number_of (Alert timer cic) = 0x4000_0000 + timer_number timer * 4096 + cic.0 % 4096
 
-abbrev pub begun_of : ℕ → Cic → Option Word
-begun_of n cic = cond (n == 0) (Some (Begun Outgoing cic)) (cond (n == 1) (Some (Begun Incoming cic)) None)
+abbrev pub direction_of : ℕ → Option Direction
+direction_of n = cond (n == 0) (Some Outgoing) (cond (n == 1) (Some Incoming) None)
 
 -- by the kind, the bits over the CIC, and the CIC
 abbrev pub word_by : ℕ → ℕ → Cic → ℕ → Option Word
 word_by kind field cic n =
     cond (kind == 1) (Some (Send (n / 65536 % 4096) (n % 65536)))
-    (cond (kind == 2) (begun_of field cic)
+    (cond (kind == 2) (option_map (λ way. Begun way cic) (direction_of field))
     (cond (kind == 3) (option_map (λ cause. Ended cause cic) (cause_of field))
     (cond (kind == 4) (option_map (λ timer. Alert timer cic) (timer_of field)) None)))
 

@@ -1,7 +1,7 @@
 // The numbers of what a host is told, and the 32 bits that say it.
 ghost use Rattle.std.specs.Prelude.{◌≡◌, ◌+◌, ◌*◌, ◌/◌, ◌%◌, ◌<◌, Some};
 ghost use Rattle.std.specs.Result.{result_ok};
-ghost use Rattle.told.specs.Words.{cause_number, cause_of, timer_number, timer_of, number_of, word_of, Fits};
+ghost use Rattle.told.specs.Words.{cause_number, cause_of, timer_number, timer_of, direction_of, number_of, word_of, Fits};
 
 use crate::kinds::{Direction, EndCause, Timer, Word};
 use status::Cic;
@@ -80,7 +80,21 @@ impl TryFrom<u32> for Timer {
     }
 }
 
-// A word about a circuit: its kind, a field, and the low twelve bits of the CIC.
+impl TryFrom<u32> for Direction {
+    type Error = UnknownNumber;
+
+    ghost try_from_gives = { λ number read. result_ok read ≡ direction_of number };
+
+    fn try_from(number: u32) -> Result<Direction, UnknownNumber> {
+        match number {
+            0 => Ok(Direction::Outgoing),
+            1 => Ok(Direction::Incoming),
+            _ => Err(UnknownNumber),
+        }
+    }
+}
+
+// A word about a circuit: the number of its kind, which stands only in the 32 bits, a field, and the low twelve bits of the CIC.
 fn circuit_word(kind: u32, field: u32, cic: Cic) -> u32
     requires kind { kind < 16 }
     requires field { field < 65536 }
@@ -121,8 +135,7 @@ impl TryFrom<u32> for Word {
                 let place = (number / 65536 % 4096) as u16;
                 Ok(Word::Send(place, (number % 65536) as u16))
             }
-            (2, 0) => Ok(Word::Begun(Direction::Outgoing, cic)),
-            (2, 1) => Ok(Word::Begun(Direction::Incoming, cic)),
+            (2, way) => Ok(Word::Begun(Direction::try_from(way)?, cic)),
             (3, cause) => Ok(Word::Ended(EndCause::try_from(cause)?, cic)),
             (4, timer) => Ok(Word::Alert(Timer::try_from(timer)?, cic)),
             _ => Err(UnknownNumber),
