@@ -1,5 +1,5 @@
 // What is kept of each circuit.
-ghost use Rattle.std.specs.Prelude.{◌≡◌};
+ghost use Rattle.std.specs.Prelude.{◌≡◌, [], ◌∷◌};
 ghost use Rattle.circuit.specs.Circuits.{is_idle, is_connected, is_none, is_waiting, is_group, block_of, with_block, fresh, is_open};
 
 use message::BlockType;
@@ -32,7 +32,7 @@ pub enum LocalBlock {
 }
 
 // A reset of ours that waits for its answer.
-// None is one of the states between which the rules move, so it is no Option.
+// None is a state of the record as the others are: the rules of messages go back to it. So it is no Option.
 #[derive(Clone, Copy, PartialEq, Eq, Default, Debug)]
 pub enum Reset {
     #[default]
@@ -59,6 +59,15 @@ pub type FarBlocks = Blocks<bool>;
 pub struct Cause {
     pub location: u8,
     pub value: u8,
+}
+
+// The octets as they are sent.
+impl From<Cause> for [u8; 2] {
+    ghost from_gives = { λ cause octets. octets ≡ cause.location ∷ cause.value ∷ [] };
+
+    fn from(cause: Cause) -> [u8; 2] {
+        [cause.location, cause.value]
+    }
 }
 
 #[derive(Clone, Copy, PartialEq, Eq, Default, Debug)]

@@ -8,7 +8,8 @@ use crate::record::{Call, Cause, Circuit, FarBlocks, LocalBlock, LocalBlocks, Re
 use message::BlockType;
 use told::{Direction, EndCause};
 
-// What a rule makes of a circuit, and what it tells of its call: an end, a beginning, or first the one and then the other.
+// What a rule makes of a circuit, and what it tells of its call: an end, a beginning, or first the one and then
+// the other.
 #[derive(Clone, Copy)]
 pub struct Change {
     pub circuit: Circuit,
@@ -24,7 +25,7 @@ pub enum Rule {
     Release(Cause),
     Block(BlockType),
     Unblock(BlockType),
-    // single or group
+    // the reset that waits then; a type without its None would ask more of callers
     Reset(Reset),
 }
 

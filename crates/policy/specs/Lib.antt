@@ -6,3 +6,4 @@ pub mod Fields
 pub mod Runs
 pub mod Members
 pub mod Ordering
+pub mod Marks

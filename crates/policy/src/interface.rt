@@ -2,9 +2,17 @@
 ghost use Rattle.std.specs.Prelude.{◌≡◌, ℕ, ◌<◌, Bool, true, false, List, length, slice_index_or, slice_set};
 ghost use Rattle.policy.specs.Sets.{Chosen, after, last_word};
 
+use std::fmt;
+
 // A place in the table of circuit records. It is no CIC.
 #[derive(Clone, Copy, PartialEq, Eq, Debug)]
 pub struct Place(pub usize);
+
+impl fmt::Display for Place {
+    fn fmt<W: fmt::Write>(&self, f: &mut fmt::Formatter<W>) -> fmt::Result {
+        write!(f, "{}", self.0)
+    }
+}
 
 // A set of places below a number of its own.
 pub trait Policy {
@@ -32,7 +40,7 @@ pub trait Policy {
     ghost sized: { (x : Self) → length (held x) ≡ PLACES };
 }
 
-// A word to a policy.
+// A word to a policy. An enum and no closure, since words are kept and replayed, and the last one on a place is asked for.
 #[derive(Clone, Copy)]
 pub enum Word {
     Offer(Place),

@@ -22,6 +22,8 @@ pub struct Sequential {
 }
 
 impl Sequential {
+    ghost use Rattle.policy.specs.Marks.{Marked};
+
     // Holds nothing at first.
     pub fn new(end: End) -> Sequential
         ensures end { result.end ≡ end }
@@ -35,8 +37,7 @@ impl Sequential {
 
     // Marks a place as held or not. One past the last changes nothing.
     fn mark(&mut self, place: Place, held: bool)
-        ensures set { self.new.marks ≡ slice_set self.old.marks place.0 held }
-        ensures end { self.new.end ≡ self.old.end }
+        ensures { Marked place held self.old self.new }
     {
         if place.0 < self.marks.len() {
             self.marks[place.0] = held;
@@ -57,6 +58,8 @@ impl Sequential {
 }
 
 impl Policy for Sequential {
+    ghost use Rattle.policy.specs.Marks.{Marked};
+
     const PLACES: usize = 512;
 
     ghost PLACES = { 512 };
@@ -66,15 +69,13 @@ impl Policy for Sequential {
     ghost sized = { Prim.search rules };
 
     fn offer(&mut self, place: Place)
-        ensures set { self.new.marks ≡ slice_set self.old.marks place.0 true }
-        ensures end { self.new.end ≡ self.old.end }
+        ensures { Marked place true self.old self.new }
     {
         self.mark(place, true);
     }
 
     fn withdraw(&mut self, place: Place)
-        ensures set { self.new.marks ≡ slice_set self.old.marks place.0 false }
-        ensures end { self.new.end ≡ self.old.end }
+        ensures { Marked place false self.old self.new }
     {
         self.mark(place, false);
     }

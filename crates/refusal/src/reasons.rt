@@ -17,8 +17,8 @@ pub enum Refusal {
     Buffers,
     // a message of fewer than three octets
     Short,
-    // a type that is not listed, a layout and a limit that are not kept, each with the type octet:
-    // a number and no kind, since one that is not listed has no name
+    // a type that is not listed, a layout and a limit that are not kept, each with the type octet, which comes up from
+    // the message part by `From`
     Unknown(u8),
     Layout(u8),
     Limit(u8),
@@ -55,13 +55,13 @@ impl Refusal {
         }
     }
 
-    // The type octet of the message that was refused. Number and octet are asked of a message's fault too, which is another
-    // type: there are twelve refusals, one of them for two faults of room.
+    // The type octet of the message that was refused. A message's fault has its own, since the rules ask for one enum of
+    // twelve refusals, which cannot hold another.
     pub fn type_octet(self) -> Option<u8>
         ensures { result ≡ type_in self }
     {
         match self {
-            Refusal::Unknown(kind) | Refusal::Layout(kind) | Refusal::Limit(kind) => Some(kind),
+            Refusal::Unknown(octet) | Refusal::Layout(octet) | Refusal::Limit(octet) => Some(octet),
             _ => None,
         }
     }
@@ -71,7 +71,7 @@ impl fmt::Display for Refusal {
     fn fmt<W: fmt::Write>(&self, f: &mut fmt::Formatter<W>) -> fmt::Result {
         write!(f, "refused {}", self.number())?;
         match self.type_octet() {
-            Some(kind) => write!(f, " type={kind:02X}"),
+            Some(octet) => write!(f, " type={octet:02X}"),
             None => Ok(()),
         }
     }
@@ -86,9 +86,9 @@ impl From<MessageFault> for Refusal {
         match fault {
             MessageFault::NoRoom => Refusal::Buffers,
             MessageFault::Short => Refusal::Short,
-            MessageFault::Unknown(kind) => Refusal::Unknown(kind),
-            MessageFault::Layout(kind) => Refusal::Layout(kind),
-            MessageFault::Limit(kind) => Refusal::Limit(kind),
+            MessageFault::Unknown(octet) => Refusal::Unknown(octet),
+            MessageFault::Layout(octet) => Refusal::Layout(octet),
+            MessageFault::Limit(octet) => Refusal::Limit(octet),
         }
     }
 }

@@ -11,16 +11,13 @@ struct Choice(Option<Place>);
 impl fmt::Display for Choice {
     fn fmt<W: fmt::Write>(&self, f: &mut fmt::Formatter<W>) -> fmt::Result {
         match self.0 {
-            Some(place) => {
-                let number = place.0;
-                write!(f, "{number}")
-            }
+            Some(place) => write!(f, "{place}"),
             None => write!(f, "-"),
         }
     }
 }
 
-// The policies that are told the same words.
+// The policies that are told the same words. They are of two types, so they stand in no array.
 #[derive(Clone, Copy)]
 struct Policies {
     low: Sequential,
