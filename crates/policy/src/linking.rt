@@ -1,5 +1,5 @@
 // Places linked in release order: in, out, and the next to choose.
-ghost use Rattle.std.specs.Prelude.{◌≡◌, ℕ, ◌<◌, Bool, true, false, List, [], replicate, slice_index, slice_index_or, slice_set};
+ghost use Rattle.std.specs.Prelude.{Some, None, nat_lt, if◌then◌else◌, ◌≡◌, ℕ, ◌<◌, Bool, true, false, List, [], replicate, slice_index, slice_index_or, slice_set};
 ghost use Rattle.policy.specs.Fields.{blank};
 ghost use Rattle.policy.specs.Orders.{Ordered, newers, olders, marks, end_for, offered, withdrawn, preferred};
 
@@ -10,6 +10,13 @@ use crate::links::{Link, Links};
 const CONTROLLED: usize = 512;
 
 const UNCONTROLLED: usize = 513;
+
+// The place that a link leads to; an end is none.
+fn place_at(at: usize) -> Option<Place>
+    ensures { result ≡ if nat_lt at 512 then Some (record { 0 = at }) else None }
+{
+    (at < 512).then_some(Place(at))
+}
 
 impl Links {
     // No place is linked, and each line leads from its end to its end.
@@ -71,15 +78,9 @@ impl Links {
     pub(crate) fn choose(&self) -> Option<Place>
         ensures { (e : Bool) (zs : List ℕ) → Ordered e self.now.links zs → result ≡ preferred e zs }
     {
-        let first = self.at(CONTROLLED).newer;
-        let last = self.at(UNCONTROLLED).older;
-        if first < 512 {
-            Some(Place(first))
-        } else if last < 512 {
-            Some(Place(last))
-        } else {
-            None
-        }
+        let first = place_at(self.at(CONTROLLED).newer);
+        let last = place_at(self.at(UNCONTROLLED).older);
+        first.or(last)
     }
 
     // The link at `at`; one past the last is free.

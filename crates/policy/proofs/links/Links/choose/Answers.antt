@@ -1,21 +1,25 @@
-use Rattle.std.proofs.Common.{sym, ap, ◌∙◌}
+use Rattle.std.proofs.Common.{◌≡◌, ◌<◌, ◌≤◌, sym, ap, ◌∙◌, ⊎_elim, slice_index, arith}
+use Rattle.std.proofs.lemmas.Bool.{cases_lt}
+use Rattle.std.proofs.lemmas.Bool.Decides.{nat_tests}
 use Rattle.policy.specs.Fields.{blank, field_at}
-use Rattle.policy.specs.Keeping.{chosen_last, chosen_none}
+use Rattle.policy.specs.Keeping.{chosen_first, chosen_last, chosen_none}
+use Rattle.policy.specs.Orders.{newers, olders}
 use Rattle.policy.specs.declared.links.Link.{Link}
 use Rattle.policy.proofs.links.Links.choose.Goals as goal
 
-pub returns-then-last-lt512 : goal.returns-then-last-lt512
-returns-then-last-lt512 c e zs o =
+pub returns : goal.returns
+returns c e zs o =
     let ls = c.args.self.now.links in
     let newer = λ (l : Link). l.newer in
     let older = λ (l : Link). l.older in
-    chosen_last e ls _ _ c.args.self.now.ok (field_at newer ls 512 blank ∙ ap newer (sym c.at-first.ensures)) c.if-first-lt512.false
-    (field_at older ls 513 blank ∙ ap older (sym c.at-last.ensures)) c.if-last-lt512.true zs o
-
-pub returns-else-last-lt512 : goal.returns-else-last-lt512
-returns-else-last-lt512 c e zs o =
-    let ls = c.args.self.now.links in
-    let newer = λ (l : Link). l.newer in
-    let older = λ (l : Link). l.older in
-    chosen_none e ls _ _ c.args.self.now.ok (field_at newer ls 512 blank ∙ ap newer (sym c.at-first.ensures)) c.if-first-lt512.false
-    (field_at older ls 513 blank ∙ ap older (sym c.at-last.ensures)) c.if-last-lt512.false zs o
+    let x = c.at.result.newer in
+    let y = c.at-2.result.older in
+    let p : slice_index (newers ls) 512 ≡ x = field_at newer ls 512 blank ∙ ap newer (sym c.at.ensures) in
+    let q : slice_index (olders ls) 513 ≡ y = field_at older ls 513 blank ∙ ap older (sym c.at-2.ensures) in
+    ⊎_elim
+    (λ (h : x < 512). let r = chosen_first e ls x c.args.self.now.ok p h zs o in grind (arith, nat_tests, r, c.or.ensures, c.place_at-first.ensures))
+    (λ (h : 512 ≤ x). ⊎_elim
+      (λ (g : y < 512). let r = chosen_last e ls x y c.args.self.now.ok p h q g zs o in grind (arith, nat_tests, r, c.or.ensures, c.place_at-first.ensures, c.place_at-last.ensures))
+      (λ (g : 512 ≤ y). let r = chosen_none e ls x y c.args.self.now.ok p h q g zs o in grind (arith, nat_tests, r, c.or.ensures, c.place_at-first.ensures, c.place_at-last.ensures))
+      (cases_lt y 512))
+    (cases_lt x 512)
