@@ -31,21 +31,21 @@ pub struct Desk {
     pub octets: [u8; 320],
 }
 
-// Opens a trunk over a new policy of its method.
-fn open_trunk(opening: &Opening, table: &mut [Circuit]) -> Result<OpenTrunk, Refusal> {
-    let equipment = opening.equipment.as_slice();
-    let mut selection = Selection::new(opening.method, opening.higher);
-    let trunk = Trunk::open(
-        opening.first,
-        equipment,
-        opening.higher,
-        table,
-        &mut selection,
-    )?;
-    Ok(OpenTrunk { trunk, selection })
-}
-
 impl OpenTrunk {
+    // Opens a trunk over a new policy of its method.
+    fn new(opening: &Opening, table: &mut [Circuit]) -> Result<OpenTrunk, Refusal> {
+        let equipment = opening.equipment.as_slice();
+        let mut selection = Selection::new(opening.method, opening.higher);
+        let trunk = Trunk::open(
+            opening.first,
+            equipment,
+            opening.higher,
+            table,
+            &mut selection,
+        )?;
+        Ok(OpenTrunk { trunk, selection })
+    }
+
     // Does an operation; how many words and octets it wrote.
     fn operate(
         &mut self,
@@ -101,7 +101,7 @@ impl Desk {
     {
         let systems = opening.equipment.len().min(MOST_SYSTEMS);
         let mut table = vec![in heap; Circuit::fresh(false); systems * 32]?;
-        match open_trunk(opening, table.as_mut_slice()) {
+        match OpenTrunk::new(opening, table.as_mut_slice()) {
             Ok(open) => {
                 self.open = Some(open);
                 self.table = table;

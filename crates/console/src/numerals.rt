@@ -1,4 +1,5 @@
-// Numbers as they are written in orders. Each kind is one conversion of the library, so a generic one would save nothing.
+// Numbers as they are written in orders, which are cut into words first. Each kind is one conversion of the library, so a
+// generic one would save nothing.
 ghost use Rattle.std.specs.Prelude.{◌≡◌, ◌^◌, ◌<◌, ◌≤◌, length};
 ghost use Rattle.std.specs.Option.{SomeIff};
 ghost use Rattle.std.specs.Str.Parse.{IsNumeral, digits_value};

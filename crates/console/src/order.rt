@@ -29,6 +29,7 @@ pub struct Opening {
 // Circuits of a PCM system, to block or unblock for a type of reason.
 #[derive(Clone, Copy)]
 pub struct Slots {
+    // a number, as operations take it
     pub kind: u8,
     pub system: usize,
     // bit k names time slot k

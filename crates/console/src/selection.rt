@@ -1,4 +1,4 @@
-// A policy of either method.
+// A policy of either method. An enum and no `dyn`, since a policy states its number of places as a constant.
 ghost use Rattle.console.specs.Selections.{held_by, held_by-length};
 
 use crate::order::Method;

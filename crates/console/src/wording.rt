@@ -9,6 +9,7 @@ use status::Cic;
 use std::fmt;
 use told::Word;
 
+// What an order is answered. It has more cases than a Result.
 #[derive(Clone, Copy)]
 pub enum Answer {
     // how many words and octets the outputs then have, which stay in the desk and are lent to each operation
@@ -147,7 +148,7 @@ impl fmt::Display for Standing {
             yes_no(far.maintenance),
             yes_no(far.hardware)
         )?;
-        let octets = [cause.location, cause.value];
+        let octets = <[u8; 2]>::from(cause);
         let open = if circuit.is_open() { "open" } else { "closed" };
         write!(f, "reset {reset}, cause {}, {open}", Hex::<u8, 2>(&octets))
     }

@@ -35,9 +35,7 @@ pub fn hex_octets(heap: Global, line: &[u8]) -> Result<Option<Vec<u8>>, AllocErr
                 return Ok(None);
             };
             octets.push(octet)?;
-            // `split_at` says what is left, which the proof of the loop needs and `&rest[2..]` does not give it
-            let (_, after) = rest.split_at(2);
-            rest = after;
+            rest = &rest[2..];
         }
     }
     Ok(Some(octets))

@@ -43,7 +43,7 @@ impl fmt::Display for Explanation<'_> {
     }
 }
 
-// The range of a group, and the circuits whose bits are set.
+// The range of a group, and the circuits whose bits are set. It goes over circuits, where `Hex` goes over a slice of numbers.
 #[derive(Clone, Copy)]
 struct Marked<'a> {
     first: Cic,

@@ -1,5 +1,5 @@
 // The static library for callers of C: the reader of `reader_abi` under its name.
-// C needs a static library of its own, and a library that other crates stand on is none.
+// C needs a static library, on which no crate of Rattle can stand: so the two are crates of their own.
 #![tactic(auto)]
 
 ghost use Rattle.std.specs.Prelude.{◌≡◌, length};
