@@ -43,7 +43,7 @@ impl MessageFault {
             MessageFault::NoRoom | MessageFault::Short => None,
             MessageFault::Unknown(octet)
             | MessageFault::Layout(octet)
-            | MessageFault::Limit(octet) => { Some(octet) }
+            | MessageFault::Limit(octet) => Some(octet),
         }
     }
 }
