@@ -1,7 +1,7 @@
 -- A type octet and its kind.
 use Rattle.std.proofs.Common.{◌≡◌, ℕ, Bool, true, false, cond, eqb, ◌⊎◌, Some, None, Option, sym, refl, ap, ◌∙◌, inl, inr}
 use Rattle.std.proofs.lemmas.Bool.{eqb-true}
-use Rattle.message.proofs.Lists.{none_some}
+use Rattle.std.proofs.lemmas.Option.{none-some}
 use Rattle.message.specs.declared.kinds.Kind.{Kind}
 use Rattle.message.specs.declared.kinds.Kind.TheVariants.{Single, ReleaseComplete, GroupReset, GroupResetAck, Grouped, Release, Call}
 use Rattle.message.specs.Types.{type_of, kind_of}
@@ -44,10 +44,10 @@ type_of_kind t k =
     (row (Call Iam) (row (Call Acm) (row (Call Con) (row (Call Anm) (row (Call Cpg)
     (row ReleaseComplete (row Release (row GroupReset (row GroupResetAck
     (row (Grouped Cgb) (row (Grouped Cgu) (row (Grouped Cgba) (row (Grouped Cgua)
-    (λ e. absurd (none_some k e)))))))))))))))))))
+    (λ e. absurd (none-some k e)))))))))))))))))))
 
 pub unlisted : (t : ℕ) → kind_of t ≡ None → (k : Kind) → type_of k ≡ t → ⊥
-unlisted t e k p = none_some k (sym e ∙ ap kind_of (sym p) ∙ kind_of_type k)
+unlisted t e k p = none-some k (sym e ∙ ap kind_of (sym p) ∙ kind_of_type k)
 
 -- a type octet is of a kind or of none
 pub listed : (t : ℕ) → ((k : Kind) × (kind_of t ≡ Some k)) ⊎ (kind_of t ≡ None)

@@ -1,6 +1,7 @@
 -- What is written is read back.
 use Rattle.std.proofs.Common.{◌≡◌, ℕ, ◌+◌, ◌*◌, ◌/◌, ◌%◌, ◌<◌, ◌≤◌, Bool, true, false, cond, ◌&&◌, leb, List, ◌∷◌, length, Some, None, Ok, Err, Option, Result, sym, refl, ◌∙◌, inl, true≢false, arith, length-set}
 use Rattle.std.proofs.lemmas.Bool.Decides.{nat_tests}
+use Rattle.std.proofs.lemmas.Option.{none-some}
 use Rattle.status.proofs.Cleared.{cleared_same}
 use Rattle.status.proofs.Names.{count_same}
 use Rattle.status.specs.Bits.{octets_for, cleared}
@@ -8,7 +9,6 @@ use Rattle.status.specs.Circuits.{cic_of}
 use Rattle.status.specs.Parameter as group
 use Rattle.message.proofs.Formats.{decode_long}
 use Rattle.message.proofs.Listed.{kind_of_type}
-use Rattle.message.proofs.Lists.{none_some}
 use Rattle.message.proofs.Rows.{said_laid}
 use Rattle.message.specs.Decode.{decode, limited, laid_out_as, within}
 use Rattle.message.specs.Encode.{encode, encode_rest, plain, sized, refusal_of, type_in}
@@ -100,9 +100,9 @@ reads_back m j h = by_tests m j h _ _ refl refl
 all_pass : (z b w : Bool) (t : ℕ) → ◌≡◌ {A = Option MessageFault} (cond z (cond (b && w) None (Some (Limit t))) (Some (Layout t))) None →
     (z ≡ true) × (b ≡ true) × (w ≡ true)
 all_pass true true true t e = (refl, refl, refl)
-all_pass true true false t e = absurd (none_some _ (sym e))
-all_pass true false w t e = absurd (none_some _ (sym e))
-all_pass false b w t e = absurd (none_some _ (sym e))
+all_pass true true false t e = absurd (none-some _ (sym e))
+all_pass true false w t e = absurd (none-some _ (sym e))
+all_pass false b w t e = absurd (none-some _ (sym e))
 
 -- a message that may be written keeps the limits
 pub may_write : (m : Msg) → refusal_of m ≡ None → (cic_in m ≤ 4095) × (within m ≡ true) × (sized m ≡ true)

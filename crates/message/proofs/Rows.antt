@@ -2,9 +2,10 @@
 use Rattle.std.proofs.Common.{◌≡◌, ℕ, ◌+◌, ◌*◌, ◌/◌, ◌%◌, ◌≤◌, Bool, true, cond, ◌&&◌, ◌||◌, eqb, leb, ◌⊎◌, List, [], ◌∷◌, ◌++◌, length, get_or, take, drop, Some, None, refl, ◌∙◌, subst, inl, inr, arith, length-append}
 use Rattle.std.proofs.lemmas.List.{nil_from_length, take_all, take_at, length-drop}
 use Rattle.std.proofs.lemmas.Bool.Decides.{nat_tests}
+use Rattle.std.proofs.lemmas.Option.{cond_some}
 use Rattle.status.specs.Bits.{octets_for}
 use Rattle.status.specs.Parameter as group
-use Rattle.message.proofs.Lists.{passed, first_two, first_three}
+use Rattle.message.proofs.Lists.{first_two, first_three}
 use Rattle.message.specs.Decode.{laid_out_as, release_laid_out, as_group_reset_ack, as_grouped, as_release}
 use Rattle.message.specs.Format.{Parameter, Follows}
 use Rattle.message.specs.Msg.{Msg, single, release_complete, group_reset, group_reset_ack, grouped, release, call, cic_in, kind_in}
@@ -16,7 +17,7 @@ abbrev pub Row : Kind → ℕ → List ℕ → Msg → Type 0
 Row k c xs m = (kind_in m ≡ k) × (cic_in m ≡ c) × Follows m xs
 
 row_of : (k : Kind) (c : ℕ) (xs : List ℕ) (b : Bool) (x m : Msg) → (b ≡ true → Row k c xs x) → cond b (Some x) None ≡ Some m → Row k c xs m
-row_of k c xs b x m f e = let p = passed b x m e in subst (λ (n : Msg). Row k c xs n) p.1 (f p.0)
+row_of k c xs b x m f e = let p = cond_some b x m e in subst (λ (n : Msg). Row k c xs n) p.1 (f p.0)
 
 parameter_said : (xs : List ℕ) → group.laid_out xs ≡ true → Parameter (get_or xs 1 0) (drop 2 xs) xs
 parameter_said xs t =

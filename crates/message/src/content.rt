@@ -7,6 +7,7 @@ ghost use Rattle.message.specs.Msg.{cic_in, kind_in};
 use crate::kinds::{BlockType, CallKind, Grouped, Kind, Single};
 use status::{Cic, Group, Range};
 
+// Each case has the CIC, and no struct beside the enum: the cases hold the parts of the octets, as the rules ask.
 #[derive(Clone, Copy)]
 pub enum Message<'a> {
     // RSC, BLO, UBL, BLA, UBA
@@ -31,13 +32,13 @@ impl Message<'_> {
         ensures { result.0 ≡ cic_in (meaning self.entry) }
     {
         match self {
-            Message::Single(cic, _) => cic,
-            Message::ReleaseComplete(cic) => cic,
-            Message::GroupReset(cic, _) => cic,
-            Message::GroupResetAck(cic, _) => cic,
-            Message::Grouped(cic, _, _, _) => cic,
-            Message::Release(cic, _) => cic,
-            Message::Call(cic, _, _) => cic,
+            Message::Single(cic, _)
+            | Message::ReleaseComplete(cic)
+            | Message::GroupResetAck(cic, _)
+            | Message::Grouped(cic, _, _, _)
+            | Message::Release(cic, _)
+            | Message::Call(cic, _, _)
+            | Message::GroupReset(cic, _) => cic,
         }
     }
 

@@ -41,9 +41,9 @@ impl MessageFault {
     {
         match self {
             MessageFault::NoRoom | MessageFault::Short => None,
-            MessageFault::Unknown(octet) => Some(octet),
-            MessageFault::Layout(octet) => Some(octet),
-            MessageFault::Limit(octet) => Some(octet),
+            MessageFault::Unknown(octet)
+            | MessageFault::Layout(octet)
+            | MessageFault::Limit(octet) => Some(octet),
         }
     }
 }

@@ -11,8 +11,8 @@ use std::fmt;
 // Why circuits are blocked.
 #[derive(Clone, Copy, PartialEq, Eq, Debug)]
 pub enum BlockType {
-    Maintenance,
-    Hardware,
+    Maintenance = 0,
+    Hardware = 1,
 }
 
 // An indicator that stands for no block type.
@@ -24,10 +24,7 @@ impl From<BlockType> for u8 {
     ghost from_gives = { λ why indicator. indicator ≡ indicator_of why };
 
     fn from(why: BlockType) -> u8 {
-        match why {
-            BlockType::Maintenance => 0,
-            BlockType::Hardware => 1,
-        }
+        why as u8
     }
 }
 

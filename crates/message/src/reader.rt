@@ -3,6 +3,7 @@ ghost use Rattle.std.specs.Prelude.{◌≡◌};
 ghost use Rattle.message.specs.Decode.{decode, limited, laid_out_as};
 ghost use Rattle.message.specs.Laws.{Reads};
 ghost use Rattle.message.specs.Meaning.{seen};
+ghost use Rattle.message.specs.Types.{type_of};
 
 use crate::content::Message;
 use crate::fault::MessageFault;
@@ -10,9 +11,10 @@ use crate::kinds::{BlockType, Kind};
 use status::{Cic, Range, read_group};
 
 // The message of a kind, where `rest`, all that follows the type octet, has the kind's layout.
-fn read_as(kind: Kind, octet: u8, cic: Cic, rest: &[u8]) -> Result<Message<'_>, MessageFault>
-    ensures { seen result ≡ limited octet (laid_out_as kind cic.0 rest.now) }
+fn read_as(kind: Kind, cic: Cic, rest: &[u8]) -> Result<Message<'_>, MessageFault>
+    ensures { seen result ≡ limited (type_of kind) (laid_out_as kind cic.0 rest.now) }
 {
+    let octet = u8::from(kind);
     match (kind, rest) {
         (Kind::Single(what), []) => Ok(Message::Single(cic, what)),
         (Kind::ReleaseComplete, [] | [0]) => Ok(Message::ReleaseComplete(cic)),
@@ -44,5 +46,5 @@ pub fn read(octets: &[u8]) -> Result<Message<'_>, MessageFault>
         return Err(MessageFault::Short);
     };
     let kind = Kind::try_from(*octet)?;
-    read_as(kind, *octet, Cic::from_octets(*low, *high), rest)
+    read_as(kind, Cic::from_octets(*low, *high), rest)
 }

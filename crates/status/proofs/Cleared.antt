@@ -48,7 +48,3 @@ cleared_spare r xs l k h =
 -- as a mask clears them
 pub cleared_by_mask : (r : ℕ) (xs : List ℕ) → set xs (r / 8) (bit_and (get_or xs (r / 8) 0) (255 / 2 ^ (7 - r % 8))) ≡ cleared r xs
 cleared_by_mask r xs = rw (masked (get_or xs (r / 8) 0) (r % 8) (omega arith))
-
--- a status that does not reach its last octet
-pub cleared_short : (r : ℕ) (xs : List ℕ) → length xs ≤ r / 8 → xs ≡ cleared r xs
-cleared_short r xs h = rw set_past

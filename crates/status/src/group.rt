@@ -17,7 +17,6 @@ fn ones_in(octets: &[u8]) -> u8
     requires { length octets.now < 32 }
     ensures { result ≡ set_bits octets.now (8 * length octets.now) }
 {
-    // a loop, since with a chain of the library a read of range 255 takes six instructions more
     let mut count = 0;
     for octet in octets {
         count += octet.count_ones() as u8;

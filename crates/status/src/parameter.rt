@@ -7,7 +7,8 @@ use crate::group::Group;
 use crate::span::Range;
 
 // Reads a length octet, a range from 1 to `most` and its status, which are all of `part`,
-// in a message of the type octet `octet`.
+// in a message of the type octet `octet`: a number, since the message's fault comes of it by `From`,
+// and this crate knows no kinds.
 pub fn read_group(octet: u8, most: u8, part: &[u8]) -> Result<Group<'_>, ParamFault>
     ensures { seen_group result ≡ read_group octet most part.now }
 {

@@ -1,20 +1,9 @@
-use Rattle.std.proofs.Common.{◌≡◌, ℕ, ◌+◌, ◌*◌, ◌/◌, ◌<◌, ◌≤◌, List, length, get_or, take, ◌∙◌, arith, length-take}
-use lib.Bits.{bit_and}
-use lib.Count.{ones, ones-le}
-use Rattle.std.proofs.lemmas.Nat.{and_le_r}
+use Rattle.std.proofs.Common.{◌≡◌, ℕ, ◌+◌, ◌/◌, ◌<◌, ◌≤◌, List, length, get_or, ◌∙◌, arith}
 use Rattle.status.specs.Bits.{set_bits, SameBits}
 use Rattle.status.specs.Naming.{circuits_of}
-use Rattle.status.proofs.Bits.{count_some, count_none, set_few}
+use Rattle.status.proofs.Bits.{count_some, count_none}
 use Rattle.status.proofs.Names.{names_counted, count_same}
 use Rattle.status.proofs.group.Group.count_set.Goals as goal
-
-few : (x m : ℕ) → m < 256 → ones (bit_and x m) < 9
-few x m h = omega (arith, ones-le 8 (bit_and x m) (omega (arith, and_le_r x m)))
-
-pub overflow_add-result : goal.overflow_add-result
-overflow_add-result c =
-    let front = take c.min.result c.args.self.status.now in
-    omega (arith, length-take c.min.result c.args.self.status.now, set_few front (8 * length front), few c.in-Some.octet.now c.last_mask.result c.last_mask.type_inv)
 
 -- a count that is right is that of the named circuits, and spare bits do not change it
 count_clauses : (n r : ℕ) (xs : List ℕ) → n ≡ set_bits xs (r + 1) →

@@ -1,6 +1,6 @@
-use Rattle.std.proofs.Common.{◌≡◌, ℕ, ◌<◌, List, length, arith}
+use Rattle.std.proofs.Common.{◌≡◌, ℕ, ◌<◌, List, length}
 use Rattle.status.specs.Bits.{octets_for, bit_at, SameBits, cleared}
-use Rattle.status.proofs.Cleared.{cleared_same, cleared_spare, cleared_by_mask, cleared_short}
+use Rattle.status.proofs.Cleared.{cleared_same, cleared_spare, cleared_by_mask}
 use Rattle.status.proofs.span.Range.clear_spare.Goals as goal
 
 -- what holds of a cleared status holds of the octets that are left
@@ -11,9 +11,4 @@ clauses r xs ys e = (e, (λ k h. rw e (cleared_same r xs k h)), λ l k h. rw e (
 pub returns-then-end-status : goal.returns-then-end-status
 returns-then-end-status c =
     let p = clauses c.args.self.0 c.args.status.now _ (rw c.last_mask.ensures (cleared_by_mask c.args.self.0 c.args.status.now)) in
-    record { after = p.0; same = p.1; spare = p.2 }
-
-pub returns-else-end-status : goal.returns-else-end-status
-returns-else-end-status c =
-    let p = clauses c.args.self.0 c.args.status.now _ (cleared_short c.args.self.0 c.args.status.now (omega arith)) in
     record { after = p.0; same = p.1; spare = p.2 }
