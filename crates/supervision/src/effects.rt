@@ -7,7 +7,7 @@ ghost use Rattle.circuit.specs.Laws.{told_of};
 ghost use Rattle.circuit.specs.Orders.{applied};
 ghost use Rattle.told.specs.Words.{number_of};
 ghost use Rattle.supervision.specs.Laws.{placed};
-ghost use Rattle.supervision.specs.Lending.{Performed, Suffices, lent, over};
+ghost use Rattle.supervision.specs.Lending.{Performed, Sendable, Suffices, lent, over};
 ghost use Rattle.supervision.specs.Moves.{where_named};
 ghost use Rattle.supervision.specs.Orders.{ordered};
 ghost use Rattle.supervision.specs.Steps.{settled_at, named_by, Stood};
@@ -134,8 +134,7 @@ impl Trunk {
         requires enough { Suffices self.config P.Policy.PLACES (lent table.old (P.Policy.held policy.old) words.old octets.old) }
         requires inside { place.0 < length table.old }
         requires equipped { (placed table.old place.0).equipped ≡ true }
-        requires writable { refusal_of (meaning message) ≡ None }
-        requires short { length (encode (meaning message)) ≤ 320 }
+        requires sendable { Sendable (meaning message) }
         ensures { Performed self.config (ordered (λ k. nat_eq k place.0) rule (meaning message.entry)) result (lent table.old (P.Policy.held policy.old) words.old octets.old) (lent table.new (P.Policy.held policy.new) words.new octets.new) }
     {
         let circuit = &mut table[place.0];
@@ -158,8 +157,7 @@ impl Trunk {
         requires enough { Suffices self.config P.Policy.PLACES (lent table.old (P.Policy.held policy.old) words.old octets.old) }
         requires inside { slots.first.0 + slots.group.range.0 < length table.old }
         requires few { slots.group.range.0 < 32 }
-        requires writable { refusal_of (meaning message) ≡ None }
-        requires short { length (encode (meaning message)) ≤ 320 }
+        requires sendable { Sendable (meaning message) }
         ensures { Performed self.config (ordered (named_by slots.entry) rule (meaning message.entry)) result (lent table.old (P.Policy.held policy.old) words.old octets.old) (lent table.new (P.Policy.held policy.new) words.new octets.new) }
     {
         let count = sweep(self, slots, rule, table, policy, words);

@@ -14,6 +14,11 @@ use policy::{Place, Policy};
 use refusal::Refusal;
 use status::Cic;
 
+// what has to be lent: room for all that an operation writes
+const WORDS: usize = 96;
+
+const OCTETS: usize = 320;
+
 impl Trunk {
     // Whether enough is lent.
     pub(crate) fn admit<P: Policy>(
@@ -29,7 +34,7 @@ impl Trunk {
         if P::PLACES < table.len() {
             return Err(Refusal::Places);
         }
-        if table.len() != self.config.systems * 32 || words.len() < 96 || octets.len() < 320 {
+        if table.len() != self.places() || words.len() < WORDS || octets.len() < OCTETS {
             return Err(Refusal::Buffers);
         }
         Ok(())
