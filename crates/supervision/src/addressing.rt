@@ -1,5 +1,5 @@
 // CICs and places: each is found from the other against a trunk, never taken for it.
-ghost use Rattle.std.specs.Prelude.{◌≡◌, ◌*◌, ◌<◌};
+ghost use Rattle.std.specs.Prelude.{◌≡◌, ◌<◌};
 ghost use Rattle.supervision.specs.Trunks.{places, place_of, cic_of, cic_at, controls};
 
 use crate::trunk::Trunk;

@@ -11,7 +11,7 @@ ghost use Rattle.supervision.specs.Lending.{Performed, Sendable, Suffices, lent,
 ghost use Rattle.supervision.specs.Moves.{where_named};
 ghost use Rattle.supervision.specs.Orders.{ordered};
 ghost use Rattle.supervision.specs.Steps.{settled_at, named_by, Stood};
-ghost use Rattle.supervision.specs.Trunks.{cic_at};
+ghost use Rattle.supervision.specs.Trunks.{places, cic_at};
 
 use crate::slots::Slots;
 use crate::trunk::Trunk;
@@ -101,7 +101,7 @@ fn sweep<P: Policy>(
     words: &mut [u32],
 ) -> usize
     requires inside { slots.first.0 + slots.group.range.0 < length table.old }
-    requires table { length table.old ≤ trunk.config.systems * 32 }
+    requires table { length table.old ≤ places trunk.config }
     requires room { (slots.group.range.0 + 1) * 2 ≤ length words.old }
     ensures all { Stood trunk.config (where_named (named_by slots.entry) (λ _. applied rule)) table.old (P.Policy.held policy.old) words.old table.new (P.Policy.held policy.new) words.new result }
     ensures few { result ≤ (slots.entry.group.range.0 + 1) * 2 }
@@ -119,6 +119,8 @@ fn sweep<P: Policy>(
 }
 
 // no struct of the four that are lent: each function would promise besides that it keeps the four references
+// no struct of a rule and its message: `ordered` and `singly` take the two, and only these functions have both
+// operations answer a pair of counts, words and octets, as the rules ask
 impl Trunk {
     // Does a rule at the place of an equipped circuit, and sends a message.
     pub(crate) fn perform_at<P: Policy>(
