@@ -1,6 +1,6 @@
 -- A group order does to each named circuit what the order for one does.
 use Rattle.std.proofs.Common.{◌≡◌, ℕ, ◌+◌, ◌-◌, ◌*◌, ◌%◌, ◌<◌, Bool, true, false, not, ◌&&◌, eqb, leb, List, length, Ok, Err, Result, sym, refl, ap, ◌∙◌, arith}
-use Rattle.std.proofs.lemmas.Bool.{le-leb, eq-eqb}
+use Rattle.std.proofs.lemmas.Bool.{le-leb, eq-eqb, not-false}
 use Rattle.std.proofs.lemmas.Bool.Decides.{nat_tests}
 use Rattle.message.specs.Msg.{Msg}
 use Rattle.circuit.specs.Changes.{with_reset}
@@ -18,7 +18,7 @@ use Rattle.supervision.specs.Lending.{Lent, Done}
 use Rattle.supervision.specs.Moves.{Move, table_of, some_from}
 use Rattle.supervision.specs.Orders.{circuit_of, ordered, only, singly, slots, every_slot, status_of, groupwise}
 use Rattle.supervision.specs.Trunks.{cic_at}
-use Rattle.supervision.proofs.Allowing.{past, past_both, not_not, same_move}
+use Rattle.supervision.proofs.Allowing.{past, past_both, same_move}
 use Rattle.supervision.proofs.Keeping.{table_at}
 use Rattle.supervision.proofs.Masks.{named-slots}
 use Rattle.supervision.proofs.Naming.{acts, covers_in}
@@ -93,7 +93,7 @@ accepted_one t k rule msg T m h =
     let c = circuit_of t (cic_at t k) T in
     let a = past (not c.equipped) Address _ m h in
     let b = past (not (allows rule c)) State _ m a.1 in
-    let e : (placed T k).equipped ≡ true = rw (here t k T) at (not_not c.equipped a.0) in
+    let e : (placed T k).equipped ≡ true = rw (here t k T) at (not-false c.equipped a.0) in
     let n : m ≡ ordered (only t (cic_at t k)) rule msg = sym (same_move (ordered (only t (cic_at t k)) rule msg) m b.1) in
     (e, ap (λ (y : Move). placed (table_of y T) k) n ∙ made_of (only t (cic_at t k)) rule msg T k (alone t k) e)
 

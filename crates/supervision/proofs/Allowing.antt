@@ -1,7 +1,7 @@
 -- What an accepted order says of the circuits that it names.
 use Rattle.std.proofs.Common.{◌≡◌, ℕ, ◌-◌, ◌%◌, ◌<◌, ◌≤◌, Bool, true, false, cond, not, ◌&&◌, eqb, leb, List, length, Ok, Result, sym, refl, ap, ◌∙◌, subst, ⊎_elim, arith}
 use Rattle.std.proofs.lemmas.List.{get_or_past}
-use Rattle.std.proofs.lemmas.Bool.{eqb-true, false≢true, cases_lt}
+use Rattle.std.proofs.lemmas.Bool.{eqb-true, false≢true, not-false, cases_lt}
 use Rattle.status.specs.declared.circuit.Cic.{Cic}
 use Rattle.message.specs.Msg.{Msg}
 use Rattle.circuit.specs.Circuits.{vacant}
@@ -27,10 +27,6 @@ past false e x m h = (refl, h)
 pub same_move : (m n : Move) → ◌≡◌ {A = Result Move Refusal} (Ok m) (Ok n) → m ≡ n
 same_move m n e = cc
 
-pub not_not : (b : Bool) → not b ≡ false → b ≡ true
-not_not true e = refl
-not_not false e = absurd (false≢true (sym e))
-
 -- a circuit that is equipped is at the place of its CIC
 pub at_place : (t : Config) (cic : Cic) (T : List Circuit) → (circuit_of t cic T).equipped ≡ true → circuit_of t cic T ≡ placed T (cic.0 - t.first.0)
 at_place t cic T e = go (leb t.first.0 cic.0) e
@@ -45,8 +41,8 @@ singly_allowed t cic rule msg T m h =
     let c = circuit_of t cic T in
     let a = past (not c.equipped) Address _ m h in
     let b = past (not (allows rule c)) State _ m a.1 in
-    let at = at_place t cic T (not_not c.equipped a.0) in
-    let may : allows rule (placed T (cic.0 - t.first.0)) ≡ true = rw (← at) (not_not (allows rule c) b.0) in
+    let at = at_place t cic T (not-false c.equipped a.0) in
+    let may : allows rule (placed T (cic.0 - t.first.0)) ≡ true = rw (← at) (not-false (allows rule c) b.0) in
     subst (λ (x : Move). Allowed x T) (same_move (ordered (only t cic) rule msg) m b.1)
     (λ k n e. let q : k ≡ cic.0 - t.first.0 = eqb-true k (cic.0 - t.first.0) n in
     order_keeps rule (placed T k) (rw q may))

@@ -12,9 +12,9 @@ use Rattle.supervision.specs.Steps.{covers}
 use Rattle.supervision.proofs.Naming.{covers_in, covers_none}
 use Rattle.supervision.proofs.Some.{none, some}
 
--- the n-th circuit of a range is named and does not pass, or is one of the others
-abbrev pub Fails : ℕ → List ℕ → (Circuit → Bool) → Bool → ℕ × Circuit → Type 0
-Fails r s p b x = (is_named r s x.0 && not (p x.1)) ≡ b
+-- whether the item is a named circuit that does not pass
+abbrev pub FailureIs : ℕ → List ℕ → (Circuit → Bool) → Bool → ℕ × Circuit → Type 0
+FailureIs r s p b x = (is_named r s x.0 && not (p x.1)) ≡ b
 
 item : (first r : ℕ) (T : List Circuit) (n : ℕ) → first + r < length T → n < r + 1
     → get_or (enumerate_from 0 (take (first + r + 1 - first) (drop first T))) n (0, vacant) ≡ (n, get_or T (first + n) vacant)
@@ -34,8 +34,8 @@ items first r T l =
 pub all_named : (first r : ℕ) (s : List ℕ) (p : Circuit → Bool) (T : List Circuit) (b : Bool)
     → first + r < length T
     → MatchBool b
-    (AllWithin (Fails r s p false) (enumerate_from 0 (take (first + r + 1 - first) (drop first T))) 0 (length (enumerate_from 0 (take (first + r + 1 - first) (drop first T)))))
-    ((k : ℕ) × (k < length (enumerate_from 0 (take (first + r + 1 - first) (drop first T)))) × HoldsAt (Fails r s p true) (enumerate_from 0 (take (first + r + 1 - first) (drop first T))) k)
+    (AllWithin (FailureIs r s p false) (enumerate_from 0 (take (first + r + 1 - first) (drop first T))) 0 (length (enumerate_from 0 (take (first + r + 1 - first) (drop first T)))))
+    ((k : ℕ) × (k < length (enumerate_from 0 (take (first + r + 1 - first) (drop first T)))) × HoldsAt (FailureIs r s p true) (enumerate_from 0 (take (first + r + 1 - first) (drop first T))) k)
     → b ≡ not (some_from (λ k c. covers first r s k && not (p c)) 0 T)
 all_named first r s p T true l h =
     let size = items first r T l in

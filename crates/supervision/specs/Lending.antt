@@ -1,5 +1,7 @@
 -- What is lent to an operation, and what it leaves there.
-use Rattle.std.specs.Prelude.{◌≡◌, ℕ, ◌*◌, ◌≤◌, Bool, true, false, List, [], ◌∷◌, ◌++◌, map, length, drop, Ok, Err, Result}
+use Rattle.std.specs.Prelude.{◌≡◌, ℕ, ◌*◌, ◌≤◌, Bool, true, false, List, [], ◌∷◌, ◌++◌, map, length, drop, None, Ok, Err, Result}
+use Rattle.message.specs.Encode.{encode, refusal_of}
+use Rattle.message.specs.Msg.{Msg}
 use Rattle.circuit.specs.Circuits.{is_open}
 use Rattle.told.specs.Words.{number_of}
 use Rattle.circuit.specs.declared.record.Circuit.{Circuit}
@@ -23,6 +25,11 @@ pub record Suffices (t : Config) (room : ℕ) (before : Lent) : Type 0 where
   pub places : length before.table ≤ room
   pub words : 96 ≤ length before.words
   pub octets : 320 ≤ length before.octets
+
+-- a message that can be sent: it keeps the limits of its type, and fits the octets that are lent
+pub record Sendable (m : Msg) : Type 0 where
+  pub allowed : refusal_of m ≡ None
+  pub short : length (encode m) ≤ 320
 
 -- written from the start of an output, the rest as it was
 abbrev pub over : {X : Type 0} → List X → List X → List X

@@ -7,11 +7,11 @@ ghost use Rattle.circuit.specs.Laws.{told_of};
 ghost use Rattle.circuit.specs.Orders.{applied};
 ghost use Rattle.told.specs.Words.{number_of};
 ghost use Rattle.supervision.specs.Laws.{placed};
-ghost use Rattle.supervision.specs.Lending.{Performed, Suffices, lent, over};
+ghost use Rattle.supervision.specs.Lending.{Performed, Sendable, Suffices, lent, over};
 ghost use Rattle.supervision.specs.Moves.{where_named};
 ghost use Rattle.supervision.specs.Orders.{ordered};
 ghost use Rattle.supervision.specs.Steps.{settled_at, named_by, Stood};
-ghost use Rattle.supervision.specs.Trunks.{cic_at};
+ghost use Rattle.supervision.specs.Trunks.{places, cic_at};
 
 use crate::slots::Slots;
 use crate::trunk::Trunk;
@@ -101,7 +101,7 @@ fn sweep<P: Policy>(
     words: &mut [u32],
 ) -> usize
     requires inside { slots.first.0 + slots.group.range.0 < length table.old }
-    requires table { length table.old ≤ trunk.config.systems * 32 }
+    requires table { length table.old ≤ places trunk.config }
     requires room { (slots.group.range.0 + 1) * 2 ≤ length words.old }
     ensures all { Stood trunk.config (where_named (named_by slots.entry) (λ _. applied rule)) table.old (P.Policy.held policy.old) words.old table.new (P.Policy.held policy.new) words.new result }
     ensures few { result ≤ (slots.entry.group.range.0 + 1) * 2 }
@@ -119,6 +119,8 @@ fn sweep<P: Policy>(
 }
 
 // no struct of the four that are lent: each function would promise besides that it keeps the four references
+// no struct of a rule and its message: `ordered` and `singly` take the two, and only these functions have both
+// operations answer a pair of counts, words and octets, as the rules ask
 impl Trunk {
     // Does a rule at the place of an equipped circuit, and sends a message.
     pub(crate) fn perform_at<P: Policy>(
@@ -134,8 +136,7 @@ impl Trunk {
         requires enough { Suffices self.config P.Policy.PLACES (lent table.old (P.Policy.held policy.old) words.old octets.old) }
         requires inside { place.0 < length table.old }
         requires equipped { (placed table.old place.0).equipped ≡ true }
-        requires writable { refusal_of (meaning message) ≡ None }
-        requires short { length (encode (meaning message)) ≤ 320 }
+        requires sendable { Sendable (meaning message) }
         ensures { Performed self.config (ordered (λ k. nat_eq k place.0) rule (meaning message.entry)) result (lent table.old (P.Policy.held policy.old) words.old octets.old) (lent table.new (P.Policy.held policy.new) words.new octets.new) }
     {
         let circuit = &mut table[place.0];
@@ -158,8 +159,7 @@ impl Trunk {
         requires enough { Suffices self.config P.Policy.PLACES (lent table.old (P.Policy.held policy.old) words.old octets.old) }
         requires inside { slots.first.0 + slots.group.range.0 < length table.old }
         requires few { slots.group.range.0 < 32 }
-        requires writable { refusal_of (meaning message) ≡ None }
-        requires short { length (encode (meaning message)) ≤ 320 }
+        requires sendable { Sendable (meaning message) }
         ensures { Performed self.config (ordered (named_by slots.entry) rule (meaning message.entry)) result (lent table.old (P.Policy.held policy.old) words.old octets.old) (lent table.new (P.Policy.held policy.new) words.new octets.new) }
     {
         let count = sweep(self, slots, rule, table, policy, words);

@@ -1,5 +1,5 @@
 // Orders for circuits of a PCM system.
-ghost use Rattle.std.specs.Prelude.{◌≡◌};
+ghost use Rattle.std.specs.Prelude.{◌≡◌, ◌+◌, ◌*◌, ◌<◌};
 ghost use Rattle.message.specs.Meaning.{indicator_of};
 ghost use Rattle.message.specs.Msg.{grouped};
 ghost use Rattle.supervision.specs.Laws.{Outcome, GroupLaws, ResetAlike};
@@ -18,6 +18,22 @@ use status::{Group, Range};
 
 // Our group messages count from time slot 1, with this range.
 const RANGE: Range = Range(30);
+
+// The circuits of a PCM system from time slot 1 on, with a status.
+fn slots_of(system: usize, status: &[u8]) -> Slots<'_>
+    requires { system < 16 }
+    ensures first { result.first.0 ≡ system * 32 + 1 }
+    ensures range { result.group.range.0 ≡ 30 }
+    ensures status { result.group.status.now ≡ status.now }
+{
+    Slots {
+        first: Place(system * 32 + 1),
+        group: Group {
+            range: RANGE,
+            status,
+        },
+    }
+}
 
 impl Trunk {
     // Does an order for the circuits of a mask and sends its message.
@@ -41,13 +57,7 @@ impl Trunk {
             return Err(Refusal::Address);
         }
         let status = (mask / 2).to_le_bytes();
-        let slots = Slots {
-            first: Place(system * 32 + 1),
-            group: Group {
-                range: RANGE,
-                status: &status,
-            },
-        };
+        let slots = slots_of(system, &status);
         slots.judge(rule, table)?;
         let cic = self.cic_at(slots.first);
         let message = Message::Grouped(cic, what, why, slots.group);
@@ -71,13 +81,7 @@ impl Trunk {
             return Err(Refusal::Address);
         }
         let every = [0xff, 0xff, 0xff, 0x7f];
-        let slots = Slots {
-            first: Place(system * 32 + 1),
-            group: Group {
-                range: RANGE,
-                status: &every,
-            },
-        };
+        let slots = slots_of(system, &every);
         let rule = Rule::Reset(Reset::Group);
         let message = Message::GroupReset(self.cic_at(slots.first), RANGE);
         Ok(self.perform(slots, rule, message, table, policy, words, octets))

@@ -1,10 +1,11 @@
 // What an order is refused for, before anything is changed.
-ghost use Rattle.std.specs.Prelude.{◌≡◌, ◌+◌, ◌-◌, ◌*◌, ◌<◌, ◌≤◌, true, not, length, get_or, IfOk, Ok, OnOk, ◌==◌};
+ghost use Rattle.std.specs.Prelude.{◌≡◌, ◌+◌, ◌-◌, ◌<◌, ◌≤◌, true, not, length, get_or, IfOk, Ok, OnOk, ◌==◌};
 ghost use Rattle.circuit.specs.Circuits.{vacant};
 ghost use Rattle.circuit.specs.Laws.{allows};
 ghost use Rattle.supervision.specs.Lending.{Suffices, lent};
 ghost use Rattle.supervision.specs.Orders.{admitted, circuit_of, cause_of, type_of};
 ghost use Rattle.refusal.specs.Refusals.{unless};
+ghost use Rattle.supervision.specs.Trunks.{places};
 ghost use Rattle.refusal.specs.declared.reasons.Refusal.TheVariants.{Address, State};
 
 use crate::trunk::Trunk;
@@ -13,6 +14,11 @@ use message::BlockType;
 use policy::{Place, Policy};
 use refusal::Refusal;
 use status::Cic;
+
+// what has to be lent: room for all that an operation writes
+const WORDS: usize = 96;
+
+const OCTETS: usize = 320;
 
 impl Trunk {
     // Whether enough is lent.
@@ -29,7 +35,7 @@ impl Trunk {
         if P::PLACES < table.len() {
             return Err(Refusal::Places);
         }
-        if table.len() != self.config.systems * 32 || words.len() < 96 || octets.len() < 320 {
+        if table.len() != self.places() || words.len() < WORDS || octets.len() < OCTETS {
             return Err(Refusal::Buffers);
         }
         Ok(())
@@ -37,7 +43,7 @@ impl Trunk {
 
     // The place of a circuit that an order may name.
     pub(crate) fn find(self, cic: Cic, rule: Rule, table: &[Circuit]) -> Result<Place, Refusal>
-        requires { length table.now ≡ self.config.systems * 32 }
+        requires { length table.now ≡ places self.config }
         ensures value { result ≡ unless (not (circuit_of self.config cic table.now).equipped) Address (unless (not (allows rule (circuit_of self.config cic table.now))) State (Ok (record { 0 = cic.0 - self.config.first.0 }))) }
         ensures found { IfOk result (λ p. (self.config.first.0 ≤ cic.0) × (p.0 < length table.now) × ((get_or table.now p.0 vacant).equipped ≡ true)) }
     {

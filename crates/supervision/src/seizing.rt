@@ -39,7 +39,7 @@ impl Trunk {
         ensures { Seized self.config P.Policy.PLACES body.now result (lent table.old (P.Policy.held policy.old) words.old octets.old) (lent table.new (P.Policy.held policy.new) words.new octets.new) }
     {
         self.admit(table, policy, words, octets)?;
-        if body.is_empty() || body.len() > 256 {
+        if !(1..=256).contains(&body.len()) {
             return Err(Refusal::Argument);
         }
         let place = pick(table, policy)?;

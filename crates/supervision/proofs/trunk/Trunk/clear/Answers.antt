@@ -31,7 +31,8 @@ returns g c =
     let covered = covers (system * 32 + 1) 30 (status_of every_slot) in
     let all : ordered covered rule (group_reset (t.first.0 + (system * 32 + 1)) 30) ≡ move =
     ap (λ (m : Msg). ordered covered rule m) sent ∙ ap (λ (f : ℕ → Bool). ordered f rule msg) names in
-    let done = subst (λ (m : Move). Performed t m c.perform.result before after) all (rw c.cic_at.ensures at c.perform.ensures) in
+    let status : c.slots_of-slots.result.group.status.now ≡ status_of every_slot = c.slots_of-slots.ensures.status in
+    let done = subst (λ (m : Move). Performed t m c.perform.result before after) all (rw (c.cic_at.ensures, c.slots_of-slots.ensures.first, c.slots_of-slots.ensures.range, status) at c.perform.ensures) in
     let a : clearing t system ≡ Ok move = rw far refl in
     record {
       outcome = outcome_of t (λ (_ : Lent). clearing t system) move c.perform.result before after

@@ -22,7 +22,7 @@ returns-in_err-judge g c =
     let p = err_from_is_err_and c.from_residual.result c.from_residual.ensures.1 in
     let a : groupwise t c.args.system c.args.mask c.args.rule msg T ≡ Err p.0 =
     rw p.2 (group_answer t c.args.system c.args.mask c.args.rule msg T c.to_le_bytes-status.result (Err c.in_err-judge.field-0.0)
-    (omega arith) even c.to_le_bytes-status.ensures c.in_err-judge.ensures) in
+    (omega arith) even c.to_le_bytes-status.ensures (rw (c.slots_of-slots.ensures.first, c.slots_of-slots.ensures.range, c.slots_of-slots.ensures.status) at c.in_err-judge.ensures)) in
     record {
       outcome = outcome_refused t (λ (b : Lent). groupwise t c.args.system c.args.mask c.args.rule msg b.table) p.0 c.from_residual.result
           (lent T (g.P.Policy.held c.args.policy.now) c.args.words.now c.args.octets.now) a p.1;
@@ -39,7 +39,7 @@ returns g c =
     let m = ordered named c.args.rule msg in
     let a : groupwise t c.args.system c.args.mask c.args.rule msg T ≡ Ok m =
     group_answer t c.args.system c.args.mask c.args.rule msg T c.to_le_bytes-status.result (Ok tt)
-    (omega arith) even c.to_le_bytes-status.ensures c.in_ok-judge.ensures in
+    (omega arith) even c.to_le_bytes-status.ensures (rw (c.slots_of-slots.ensures.first, c.slots_of-slots.ensures.range, c.slots_of-slots.ensures.status) at c.in_ok-judge.ensures) in
     let before = lent T (g.P.Policy.held c.args.policy.now) c.args.words.now c.args.octets.now in
     let after = lent c.perform.new.table (g.P.Policy.held c.perform.new.policy) c.perform.new.words c.perform.new.octets in
     let sent : grouped (t.first.0 + (c.args.system * 32 + 1)) c.args.what (indicator_of c.args.why) 30 c.to_le_bytes-status.result ≡ msg =
@@ -48,7 +48,7 @@ returns g c =
     outcome_of t (λ (b : Lent). groupwise t c.args.system c.args.mask c.args.rule msg b.table) m c.perform.result before after
     (rw (g.met.P.Policy.sized c.args.policy.now) c.requires.enough.places)
     (groupwise_allowed t c.args.system c.args.mask c.args.rule msg T m a) a
-    (subst (λ (x : Msg). Performed t (ordered named c.args.rule x) c.perform.result before after) sent (rw c.cic_at-cic.ensures at c.perform.ensures)) in
+    (subst (λ (x : Msg). Performed t (ordered named c.args.rule x) c.perform.result before after) sent (rw (c.cic_at-cic.ensures, c.slots_of-slots.ensures.first, c.slots_of-slots.ensures.range, c.slots_of-slots.ensures.status) at c.perform.ensures)) in
     record {
       outcome = outcome;
       group = group_order t c.args.system c.args.mask c.args.rule msg before after (Ok c.perform.result) outcome.done;

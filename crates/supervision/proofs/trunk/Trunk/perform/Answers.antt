@@ -19,5 +19,5 @@ returns g c =
     record {
       counts = rw c.send-length.ensures.count end.0;
       carries = end.1;
-      within = rw c.send-length.ensures.count (omega (arith, c.sweep-count.ensures.few), omega (arith, c.requires.short));
+      within = rw c.send-length.ensures.count (omega (arith, c.sweep-count.ensures.few), omega (arith, c.requires.sendable.short));
     }

@@ -1,5 +1,5 @@
-use Rattle.std.proofs.Common.{◌≡◌, false, ◌||◌, ◌≤◌, ltb, length, Ok, sym, refl, arith}
-use Rattle.std.proofs.lemmas.Bool.{or_from, le-ltb}
+use Rattle.std.proofs.Common.{◌≡◌, false, ◌||◌, ltb, length, Ok, sym, refl, arith}
+use Rattle.std.proofs.lemmas.Bool.Decides.{nat_tests}
 use Rattle.supervision.specs.Lending.{lent}
 use Rattle.supervision.specs.Orders.{admitted}
 use Rattle.supervision.specs.Seizing.{may_ask}
@@ -13,8 +13,7 @@ returns g c =
     let before = lent c.args.table.now (g.P.Policy.held c.args.policy.now) c.args.words.now c.args.octets.now in
     let after = lent c.perform_at.new.table (g.P.Policy.held c.perform_at.new.policy) c.perform_at.new.words c.perform_at.new.octets in
     let ok : admitted t g.P.Policy.PLACES before ≡ Ok tt = sym c.in_ok-admit.ensures.value in
-    let some : 1 ≤ length body = grind (arith, c.is_empty.ensures, c.if-is_empty.false) in
-    let size : (ltb (length body) 1 || ltb 256 (length body)) ≡ false = or_from (ltb (length body) 1) (ltb 256 (length body)) (le-ltb (length body) 1 some) (le-ltb 256 (length body) (omega arith)) in
+    let size : (ltb (length body) 1 || ltb 256 (length body)) ≡ false = grind (arith, nat_tests, c.contains.ensures, c.if-not-contains.false) in
     let may : may_ask t g.P.Policy.PLACES body before ≡ Ok tt = rw (ok, size) refl in
     let v = c.in_ok-place.ensures.value in
     rw may
