@@ -71,7 +71,7 @@ impl Trunk {
     {
         self.admit(table, policy, words, octets)?;
         let cause = cause_of(location, value)?;
-        let pair = [cause.location, cause.value];
+        let pair = <[u8; 2]>::from(cause);
         let message = Message::Release(cic, &pair);
         let rule = Rule::Release(cause);
         self.order(cic, rule, message, table, policy, words, octets)

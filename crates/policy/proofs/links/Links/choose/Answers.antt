@@ -19,7 +19,7 @@ returns c e zs o =
     ⊎_elim
     (λ (h : x < 512). let r = chosen_first e ls x c.args.self.now.ok p h zs o in grind (arith, nat_tests, r, c.or.ensures, c.place_at-first.ensures))
     (λ (h : 512 ≤ x). ⊎_elim
-      (λ (g : y < 512). let r = chosen_last e ls x y c.args.self.now.ok p h q g zs o in grind (arith, nat_tests, r, c.or.ensures, c.place_at-first.ensures, c.place_at-last.ensures))
-      (λ (g : 512 ≤ y). let r = chosen_none e ls x y c.args.self.now.ok p h q g zs o in grind (arith, nat_tests, r, c.or.ensures, c.place_at-first.ensures, c.place_at-last.ensures))
-      (cases_lt y 512))
+    (λ (g : y < 512). let r = chosen_last e ls x y c.args.self.now.ok p h q g zs o in grind (arith, nat_tests, r, c.or.ensures, c.place_at-first.ensures, c.place_at-last.ensures))
+    (λ (g : 512 ≤ y). let r = chosen_none e ls x y c.args.self.now.ok p h q g zs o in grind (arith, nat_tests, r, c.or.ensures, c.place_at-first.ensures, c.place_at-last.ensures))
+    (cases_lt y 512))
     (cases_lt x 512)
