@@ -22,7 +22,7 @@ pub struct Sequential {
 }
 
 impl Sequential {
-    ghost use Rattle.policy.specs.Marks.{Marked};
+    ghost use Rattle.policy.specs.Marks.{MarksPlace};
 
     // Holds nothing at first.
     pub fn new(end: End) -> Sequential
@@ -37,7 +37,7 @@ impl Sequential {
 
     // Marks a place as held or not. One past the last changes nothing.
     fn mark(&mut self, place: Place, held: bool)
-        ensures { Marked place held self.old self.new }
+        ensures { MarksPlace place held self.old self.new }
     {
         if place.0 < self.marks.len() {
             self.marks[place.0] = held;
@@ -58,7 +58,7 @@ impl Sequential {
 }
 
 impl Policy for Sequential {
-    ghost use Rattle.policy.specs.Marks.{Marked};
+    ghost use Rattle.policy.specs.Marks.{MarksPlace};
 
     const PLACES: usize = 512;
 
@@ -69,13 +69,13 @@ impl Policy for Sequential {
     ghost sized = { Prim.search rules };
 
     fn offer(&mut self, place: Place)
-        ensures { Marked place true self.old self.new }
+        ensures { MarksPlace place true self.old self.new }
     {
         self.mark(place, true);
     }
 
     fn withdraw(&mut self, place: Place)
-        ensures { Marked place false self.old self.new }
+        ensures { MarksPlace place false self.old self.new }
     {
         self.mark(place, false);
     }
