@@ -1,6 +1,6 @@
 use Rattle.std.proofs.Common.{◌≡◌, true, get_or, set, sym, ◌∙◌, arith}
 use Rattle.std.proofs.lemmas.List.{set_past}
-use Rattle.policy.specs.Keeping.{marks-length, end_first, offer_new, offer_member, offer_past}
+use Rattle.policy.specs.Keeping.{marks-length, end_first, offer_new, offer_past}
 use Rattle.policy.specs.Orders.{marks, newers, olders}
 use Rattle.policy.proofs.links.Links.offer.Goals as goal
 
@@ -18,14 +18,6 @@ returns-then-not-linked c =
     record {
       set = m;
       order = offer_new c.args.even ls _ at end c.args.self.now.ok c.if-at-lt512.true (sym c.if-not-linked.ensures) c.end_for.ensures n o m;
-    }
-
-pub returns-else-not-linked : goal.returns-else-not-linked
-returns-else-not-linked c =
-    let q = c.mark.ensures in
-    record {
-      set = q.marks;
-      order = offer_member c.args.even c.args.self.now.links _ c.args.at (sym c.if-not-linked.ensures) q.newer q.older q.marks;
     }
 
 pub returns-else-at-lt512 : goal.returns-else-at-lt512
