@@ -1,5 +1,5 @@
 -- Group messages of our own, and status bits by what the circuits say.
-use Rattle.std.specs.Prelude.{ℕ, zero, suc, ◌+◌, ◌*◌, ◌^◌, Bool, cond, ◌&&◌, List, [], ◌∷◌, ◌++◌, ◌==◌, nat_le}
+use Rattle.std.specs.Prelude.{ℕ, zero, suc, ◌+◌, ◌*◌, ◌^◌, Bool, cond, ◌&&◌, List, [], ◌∷◌, ◌++◌, ◌==◌, nat_le, nat_lt}
 use Rattle.message.specs.Meaning.{indicator_of}
 use Rattle.message.specs.Msg.{Msg, grouped}
 use Rattle.message.specs.declared.kinds.BlockType.{BlockType}
@@ -16,9 +16,9 @@ abbrev pub bits_below : (ℕ → Bool) → ℕ → ℕ
 bits_below p zero = 0
 bits_below p (suc n) = bits_below p n + cond (p n) (2 ^ n) 0
 
--- the mask of the circuits of a PCM system that are as the test says
+-- the mask of the circuits of a PCM system that are as the test says; time slot 0 is never one
 abbrev pub mask_by : (ℕ → Circuit → Bool) → ℕ → List Circuit → ℕ
-mask_by p system table = bits_below (λ slot. p (system * 32 + slot) (placed table (system * 32 + slot))) 32
+mask_by p system table = bits_below (λ slot. nat_lt 0 slot && p (system * 32 + slot) (placed table (system * 32 + slot))) 32
 
 -- our message for them, if there is one
 abbrev pub group_for : Config → Grouped → BlockType → (ℕ → Circuit → Bool) → ℕ → List Circuit → List Msg
