@@ -1,7 +1,11 @@
--- The set of a policy of either method.
-use Rattle.std.specs.Prelude.{◌≡◌, Bool, List, length}
+-- A policy of either method: its set, what a word makes of it, and what it chooses.
+use Rattle.std.specs.Prelude.{◌≡◌, Bool, List, length, Option}
 use Rattle.policy.specs.Keeping.{marks-length}
+use Rattle.policy.specs.Marks.{MarksWord, TakesNearest}
 use Rattle.policy.specs.Orders.{marks}
+use Rattle.policy.specs.Turns.{Reorders, TakesPreferred}
+use Rattle.policy.specs.declared.interface.Place.{Place}
+use Rattle.policy.specs.declared.interface.Word.{Word}
 use Rattle.console.specs.declared.selection.Selection.{Selection}
 use Rattle.console.specs.declared.selection.Selection.TheVariants.{OneEnd, ReleaseOrder}
 
@@ -12,3 +16,16 @@ held_by (ReleaseOrder p) = marks p.links.links
 pub held_by-length : (s : Selection) → length (held_by s) ≡ 512
 held_by-length (OneEnd p) = p.ok
 held_by-length (ReleaseOrder p) = marks-length p.links.links p.links.ok
+
+-- as the method says; it stays of that method
+abbrev pub obeys_by : Word → Selection → Selection → Type 0
+obeys_by w (OneEnd p) (OneEnd q) = MarksWord w p q
+obeys_by w (OneEnd p) (ReleaseOrder q) = ⊥
+obeys_by w (ReleaseOrder p) (OneEnd q) = ⊥
+obeys_by w (ReleaseOrder p) (ReleaseOrder q) = Reorders w p q
+
+abbrev pub picks_by : Option Place → Selection → Selection → Type 0
+picks_by o (OneEnd p) (OneEnd q) = TakesNearest o p q
+picks_by o (OneEnd p) (ReleaseOrder q) = ⊥
+picks_by o (ReleaseOrder p) (OneEnd q) = ⊥
+picks_by o (ReleaseOrder p) (ReleaseOrder q) = TakesPreferred o p q

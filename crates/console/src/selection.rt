@@ -1,5 +1,5 @@
 // A policy of either method. An enum and no `dyn`, since a policy states its number of places as a constant.
-ghost use Rattle.console.specs.Selections.{held_by, held_by-length};
+ghost use Rattle.console.specs.Selections.{held_by, held_by-length, obeys_by, picks_by};
 
 use crate::order::Method;
 use policy::{Place, Policy, ReleaseOrder, Sequential};
@@ -26,6 +26,10 @@ impl Policy for Selection {
     ghost PLACES = { 512 };
 
     ghost held = { held_by };
+
+    ghost obeys = { obeys_by };
+
+    ghost picks = { picks_by };
 
     ghost sized = { held_by-length };
 

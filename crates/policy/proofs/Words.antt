@@ -1,10 +1,22 @@
 -- The last word on each place decides.
-use Rattle.std.proofs.Common.{◌≡◌, ℕ, ◌+◌, ◌<◌, Bool, true, false, cond, eqb, ◌≢◌, List, [], ◌∷◌, ◌++◌, length, get_or, take, set, sym, refl, ap, ◌∙◌, inl, inr, arith, length-set, get_or-set_other, get_or-set_same}
+use Rattle.std.proofs.Common.{◌≡◌, ℕ, ◌+◌, ◌<◌, Bool, true, false, cond, eqb, ◌≢◌, List, [], ◌∷◌, ◌++◌, length, get_or, take, set, sym, refl, ap, ◌∙◌, subst, inl, inr, arith, length-set, get_or-set_other, get_or-set_same}
 use Rattle.std.proofs.lemmas.List.{take_more}
 use Rattle.std.proofs.lemmas.Bool.Decides.{eqb_tells}
-use Rattle.policy.specs.Sets.{told, after, saying, last_word}
+use Rattle.policy.specs.Sets.{Follows, told, after, saying, last_word}
 use Rattle.policy.specs.declared.interface.Word.{Word}
 use Rattle.policy.specs.declared.interface.Word.TheVariants.{Offer, Withdraw}
+
+-- words, and then others
+pub follows_append : {P : Type 0} (obeys : Word → P → P → Type 0) (ws vs : List Word) (p m q : P)
+    → Follows obeys ws p m → Follows obeys vs m q → Follows obeys (ws ++ vs) p q
+follows_append obeys [] vs p m q e f = subst (λ x. Follows obeys vs x q) (sym e) f
+follows_append obeys (w ∷ ws) vs p m q (n, o, e) f = (n, o, follows_append obeys ws vs n m q e f)
+
+-- where the i-th word is w
+pub follows_next : {P : Type 0} (obeys : Word → P → P → Type 0) (ws : List Word) (i : ℕ) (d w : Word) (p m q : P)
+    → i < length ws → get_or ws i d ≡ w → Follows obeys (take i ws) p m → obeys w m q → Follows obeys (take (i + 1) ws) p q
+follows_next obeys ws i d w p m q l e f o =
+    rw (take_more ws i d l, e) (follows_append obeys (take i ws) (w ∷ []) p m q f (q, o, refl))
 
 -- one word more
 after_push : (ws : List Word) (w : Word) (h : List Bool) → after (ws ++ w ∷ []) h ≡ told w (after ws h)

@@ -7,3 +7,4 @@ pub mod Runs
 pub mod Members
 pub mod Ordering
 pub mod Marks
+pub mod Turns

@@ -28,3 +28,8 @@ saying (Withdraw p) k b = cond (p.0 == k) false b
 abbrev pub last_word : List Word → ℕ → Bool → Bool
 last_word [] k b = b
 last_word (w ∷ ws) k b = last_word ws k (saying w k b)
+
+-- what becomes of a policy that is told words, the first one first, where `obeys` says what each makes of it
+abbrev pub Follows : {P : Type 0} → (Word → P → P → Type 0) → List Word → P → P → Type 0
+Follows {P} obeys [] p q = p ≡ q
+Follows {P} obeys (w ∷ ws) p q = (m : P) × obeys w p m × Follows obeys ws m q

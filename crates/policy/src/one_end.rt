@@ -58,13 +58,17 @@ impl Sequential {
 }
 
 impl Policy for Sequential {
-    ghost use Rattle.policy.specs.Marks.{MarksPlace};
+    ghost use Rattle.policy.specs.Marks.{MarksPlace, MarksWord, TakesNearest};
 
     const PLACES: usize = 512;
 
     ghost PLACES = { 512 };
 
     ghost held = { λ s. s.marks };
+
+    ghost obeys = { MarksWord };
+
+    ghost picks = { TakesNearest };
 
     ghost sized = { Prim.search rules };
 
@@ -81,10 +85,8 @@ impl Policy for Sequential {
     }
 
     fn choose(&mut self) -> Option<Place>
-        ensures same { self.new.marks ≡ self.old.marks }
         ensures member { Chosen self.old.marks result }
-        ensures nearest { Nearest self.old.end self.old.marks result }
-        ensures kept { self.new ≡ self.old }
+        ensures picks { TakesNearest result self.old self.new }
     {
         self.nearest()
     }

@@ -4,7 +4,7 @@ ghost use Rattle.policy.specs.Orders.{InOrder, Ordered, marks, offered, withdraw
 ghost use Rattle.policy.specs.Sets.{Chosen};
 ghost use Rattle.policy.specs.Keeping.{marks-length};
 
-use crate::interface::{Place, Policy};
+use crate::interface::{Place, Policy, Word};
 use crate::links::Links;
 
 // Chooses the controlled member offered longest ago, else the uncontrolled one offered last.
@@ -32,35 +32,37 @@ impl ReleaseOrder {
 }
 
 impl Policy for ReleaseOrder {
+    ghost use Rattle.policy.specs.Turns.{Reorders, TakesPreferred};
+
     const PLACES: usize = 512;
 
     ghost PLACES = { 512 };
 
     ghost held = { λ s. marks s.links.links };
 
+    ghost obeys = { Reorders };
+
+    ghost picks = { TakesPreferred };
+
     ghost sized = { λ x. marks-length x.links.links x.links.ok };
 
     fn offer(&mut self, place: Place)
         ensures set { marks self.new.links.links ≡ slice_set (marks self.old.links.links) place.0 true }
-        ensures order { (zs : List ℕ) → Ordered self.old.even self.old.links.links zs → Ordered self.new.even self.new.links.links (offered place.0 zs) }
-        ensures parity { self.new.even ≡ self.old.even }
+        ensures obeys { Reorders (Word.Offer place) self.old self.new }
     {
         self.links.offer(self.even, place.0);
     }
 
     fn withdraw(&mut self, place: Place)
         ensures set { marks self.new.links.links ≡ slice_set (marks self.old.links.links) place.0 false }
-        ensures order { (zs : List ℕ) → Ordered self.old.even self.old.links.links zs → Ordered self.new.even self.new.links.links (withdrawn place.0 zs) }
-        ensures parity { self.new.even ≡ self.old.even }
+        ensures obeys { Reorders (Word.Withdraw place) self.old self.new }
     {
         self.links.withdraw(place.0);
     }
 
     fn choose(&mut self) -> Option<Place>
-        ensures same { marks self.new.links.links ≡ marks self.old.links.links }
         ensures member { Chosen (marks self.old.links.links) result }
-        ensures turn { (zs : List ℕ) → Ordered self.old.even self.old.links.links zs → result ≡ preferred self.old.even zs }
-        ensures kept { self.new ≡ self.old }
+        ensures picks { TakesPreferred result self.old self.new }
     {
         self.links.choose()
     }

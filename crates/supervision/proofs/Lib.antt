@@ -12,4 +12,5 @@ pub mod Passing
 pub mod Settling
 pub mod Some
 pub mod Stepping
+pub mod Turning
 pub mod Writing

@@ -8,4 +8,5 @@ pub mod Orders
 pub mod Receiving
 pub mod Seizing
 pub mod Steps
+pub mod Telling
 pub mod Trunks

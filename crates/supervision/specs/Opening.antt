@@ -1,7 +1,9 @@
 -- Opening a trunk.
-use Rattle.std.specs.Prelude.{◌≡◌, ℕ, ◌+◌, ◌*◌, ◌/◌, ◌%◌, ◌^◌, Bool, not, ◌&&◌, List, map, length, Ok, Err, Result, ◌==◌, nat_le, nat_lt, slice_index}
+use Rattle.std.specs.Prelude.{◌≡◌, ℕ, zero, ◌+◌, ◌*◌, ◌/◌, ◌%◌, ◌^◌, Bool, not, ◌&&◌, List, ◌++◌, map, length, Ok, Err, Result, ◌==◌, nat_le, nat_lt, slice_index}
 use Rattle.std.specs.List.{list_all, range_with_len}
 use Rattle.status.specs.declared.circuit.Cic.{Cic}
+use Rattle.policy.specs.Sets.{Follows}
+use Rattle.policy.specs.declared.interface.Word.{Word}
 use Rattle.circuit.specs.Circuits.{fresh, is_open}
 use Rattle.circuit.specs.declared.record.Circuit.{Circuit}
 use Rattle.refusal.specs.declared.reasons.Refusal.{Refusal}
@@ -9,6 +11,7 @@ use Rattle.refusal.specs.declared.reasons.Refusal.TheVariants.{Opening, Places}
 use Rattle.supervision.specs.declared.trunk.Config.{Config}
 use Rattle.supervision.specs.declared.trunk.Trunk.{Trunk}
 use Rattle.supervision.specs.Laws.{placed, AllSound, SetIsOpen}
+use Rattle.supervision.specs.Telling.{withdrawals, offers_from}
 use Rattle.refusal.specs.Refusals.{unless}
 
 -- an equipment word has bit 0 clear and bits 1 and 31 set
@@ -56,3 +59,8 @@ OpenedIf (Ok t) room ws table held table' held' = (table' ≡ open_table ws) × 
 abbrev pub OpenLaws : Result Config Refusal → List Circuit → List Bool → Type 0
 OpenLaws (Err e) table held = Unit {0}
 OpenLaws (Ok t) table held = AllSound table × SetIsOpen table held × ((k : ℕ) → placed table k ≡ fresh (placed table k).equipped)
+
+-- what opening tells the policy
+abbrev pub TellsOpen : {P : Type 0} → (Word → P → P → Type 0) → Result Config Refusal → ℕ → List ℕ → P → P → Type 0
+TellsOpen obeys (Err e) room ws p q = q ≡ p
+TellsOpen obeys (Ok t) room ws p q = Follows obeys (withdrawals room ++ offers_from zero (open_table ws)) p q

@@ -2,6 +2,7 @@
 use Rattle.std.specs.Prelude.{◌≡◌, ℕ, ◌+◌, true, not, ◌||◌, List, length, is_ok, Some, None, Ok, Err, Option, Result, nat_eq, nat_lt}
 use Rattle.policy.specs.Sets.{Chosen}
 use Rattle.policy.specs.declared.interface.Place.{Place}
+use Rattle.policy.specs.declared.interface.Word.{Word}
 use Rattle.message.specs.Laws.{Exactly}
 use Rattle.message.specs.Msg.{call}
 use Rattle.message.specs.declared.kinds.CallKind.TheVariants.{Iam}
@@ -15,6 +16,7 @@ use Rattle.supervision.specs.Laws.{placed, SetIsOpen, Outcome}
 use Rattle.supervision.specs.Lending.{Lent}
 use Rattle.supervision.specs.Moves.{Move}
 use Rattle.supervision.specs.Orders.{admitted, ordered}
+use Rattle.supervision.specs.Telling.{Tells}
 use Rattle.refusal.specs.Refusals.{unless, and_then}
 
 -- what is refused before the policy is asked: the body has 1 to 256 octets
@@ -33,18 +35,20 @@ seizing t body choice table =
     and_then (seizable choice table)
     (λ place. Ok (ordered (λ k. nat_eq k place.0) Seize (call (t.first.0 + place.0) Iam body)))
 
--- a seizure: which member the policy names is free
-pub record Seizure (t : Config) (body : List ℕ) (r : Result (ℕ × ℕ) Refusal) (before after : Lent) : Type 0 where
+-- a seizure by a policy: which member it names is free
+pub record Seizure {P : Type 0} (picks : Option Place → P → P → Type 0) (obeys : Word → P → P → Type 0) (t : Config) (body : List ℕ) (r : Result (ℕ × ℕ) Refusal) (before after : Lent) (old new : P) : Type 0 where
   pub choice : Option Place
   -- it is a member, or none exactly if there is none
   pub chosen : Chosen before.held choice
+  -- the policy is asked once, and then told what closed
+  pub asked : (at : P) × picks choice old at × Tells obeys before.table after.table at new
   pub outcome : Outcome t (λ b. seizing t body choice b.table) r before after
   -- where the set is the open circuits, a seizure is accepted exactly if some circuit is open
   pub fair : SetIsOpen before.table before.held → Exactly (is_ok r ≡ true) ((k : ℕ) × (is_open (placed before.table k) ≡ true))
 
-abbrev pub SeizedIf : Config → List ℕ → Result (Unit {0}) Refusal → Result (ℕ × ℕ) Refusal → Lent → Lent → Type 0
-SeizedIf t body (Err e) r before after = (r ≡ Err e) × (after ≡ before)
-SeizedIf t body (Ok u) r before after = Seizure t body r before after
+abbrev pub SeizedIf : {P : Type 0} → (Option Place → P → P → Type 0) → (Word → P → P → Type 0) → Config → List ℕ → Result (Unit {0}) Refusal → Result (ℕ × ℕ) Refusal → Lent → Lent → P → P → Type 0
+SeizedIf picks obeys t body (Err e) r before after old new = (r ≡ Err e) × (after ≡ before) × (new ≡ old)
+SeizedIf picks obeys t body (Ok u) r before after old new = Seizure picks obeys t body r before after old new
 
-abbrev pub Seized : Config → ℕ → List ℕ → Result (ℕ × ℕ) Refusal → Lent → Lent → Type 0
-Seized t room body r before after = SeizedIf t body (may_ask t room body before) r before after
+abbrev pub Seized : {P : Type 0} → (Option Place → P → P → Type 0) → (Word → P → P → Type 0) → Config → ℕ → List ℕ → Result (ℕ × ℕ) Refusal → Lent → Lent → P → P → Type 0
+Seized picks obeys t room body r before after old new = SeizedIf picks obeys t body (may_ask t room body before) r before after old new

@@ -5,6 +5,7 @@ ghost use Rattle.message.specs.Msg.{grouped};
 ghost use Rattle.supervision.specs.Laws.{Outcome, GroupLaws, ResetAlike};
 ghost use Rattle.supervision.specs.Lending.{Suffices, lent};
 ghost use Rattle.supervision.specs.Orders.{groupwise, typed, clearing, status_of, why_of, group_blocking, group_unblocking, group_resetting};
+ghost use Rattle.supervision.specs.Telling.{Tells};
 ghost use Rattle.supervision.specs.Trunks.{first_of};
 
 use crate::judging::type_of;
@@ -37,6 +38,7 @@ fn slots_of(system: usize, status: &[u8]) -> Slots<'_>
 
 impl Trunk {
     // Does an order for the circuits of a mask and sends its message.
+    #[tactic(auto, using(crate::proofs::Turning::tells_same))]
     fn order_group<P: Policy>(
         self,
         system: usize,
@@ -52,6 +54,7 @@ impl Trunk {
         requires enough { Suffices self.config P.Policy.PLACES (lent table.old (P.Policy.held policy.old) words.old octets.old) }
         ensures outcome { Outcome self.config (λ before. groupwise self.config system mask rule (grouped (first_of self.config system) what (indicator_of why) 30 (status_of mask)) before.table) result (lent table.old (P.Policy.held policy.old) words.old octets.old) (lent table.new (P.Policy.held policy.new) words.new octets.new) }
         ensures group { GroupLaws self.config system mask rule (groupwise self.config system mask rule (grouped (first_of self.config system) what (indicator_of why) 30 (status_of mask)) table.old) (lent table.old (P.Policy.held policy.old) words.old octets.old) (lent table.new (P.Policy.held policy.new) words.new octets.new) }
+        ensures told { Tells P.Policy.obeys table.old table.new policy.old policy.new }
     {
         if system >= self.config.systems || mask % 2 == 1 {
             return Err(Refusal::Address);
@@ -65,6 +68,7 @@ impl Trunk {
     }
 
     // Resets the circuits of a PCM system and sends the message.
+    #[tactic(auto, using(crate::proofs::Turning::tells_same))]
     fn clear<P: Policy>(
         self,
         system: usize,
@@ -76,6 +80,7 @@ impl Trunk {
         requires enough { Suffices self.config P.Policy.PLACES (lent table.old (P.Policy.held policy.old) words.old octets.old) }
         ensures outcome { Outcome self.config (λ _. clearing self.config system) result (lent table.old (P.Policy.held policy.old) words.old octets.old) (lent table.new (P.Policy.held policy.new) words.new octets.new) }
         ensures alike { ResetAlike self.config system (clearing self.config system) (lent table.old (P.Policy.held policy.old) words.old octets.old) (lent table.new (P.Policy.held policy.new) words.new octets.new) }
+        ensures told { Tells P.Policy.obeys table.old table.new policy.old policy.new }
     {
         if system >= self.config.systems {
             return Err(Refusal::Address);
@@ -89,6 +94,7 @@ impl Trunk {
 
     // Does an order of a type for the circuits of a mask, by the rule for that type.
     // Type, PCM system and mask stay three numbers, as the operations take them.
+    #[tactic(auto, using(crate::proofs::Turning::tells_same))]
     fn order_typed<P: Policy, F: Fn(BlockType) -> Rule>(
         self,
         rule: F,
@@ -104,6 +110,7 @@ impl Trunk {
         requires { F.IsAlwaysCallable rule }
         ensures outcome { (of : BlockType → Rule) → ((why : BlockType) (r : Rule) → F.post rule why r → r ≡ of why) → Outcome self.config (typed of what self.config P.Policy.PLACES kind system mask) result (lent table.old (P.Policy.held policy.old) words.old octets.old) (lent table.new (P.Policy.held policy.new) words.new octets.new) }
         ensures group { (of : BlockType → Rule) → ((why : BlockType) (r : Rule) → F.post rule why r → r ≡ of why) → GroupLaws self.config system mask (of (why_of kind)) (typed of what self.config P.Policy.PLACES kind system mask (lent table.old (P.Policy.held policy.old) words.old octets.old)) (lent table.old (P.Policy.held policy.old) words.old octets.old) (lent table.new (P.Policy.held policy.new) words.new octets.new) }
+        ensures told { Tells P.Policy.obeys table.old table.new policy.old policy.new }
     {
         self.admit(table, policy, words, octets)?;
         let why = type_of(kind, mask)?;
@@ -133,6 +140,7 @@ impl Trunk {
     ) -> Result<(usize, usize), Refusal>
         ensures outcome { Outcome self.config (group_blocking self.config P.Policy.PLACES kind system mask) result (lent table.old (P.Policy.held policy.old) words.old octets.old) (lent table.new (P.Policy.held policy.new) words.new octets.new) }
         ensures group { GroupLaws self.config system mask (Rule.Block (why_of kind)) (group_blocking self.config P.Policy.PLACES kind system mask (lent table.old (P.Policy.held policy.old) words.old octets.old)) (lent table.old (P.Policy.held policy.old) words.old octets.old) (lent table.new (P.Policy.held policy.new) words.new octets.new) }
+        ensures told { Tells P.Policy.obeys table.old table.new policy.old policy.new }
     {
         self.order_typed(
             Rule::Block,
@@ -160,6 +168,7 @@ impl Trunk {
     ) -> Result<(usize, usize), Refusal>
         ensures outcome { Outcome self.config (group_unblocking self.config P.Policy.PLACES kind system mask) result (lent table.old (P.Policy.held policy.old) words.old octets.old) (lent table.new (P.Policy.held policy.new) words.new octets.new) }
         ensures group { GroupLaws self.config system mask (Rule.Unblock (why_of kind)) (group_unblocking self.config P.Policy.PLACES kind system mask (lent table.old (P.Policy.held policy.old) words.old octets.old)) (lent table.old (P.Policy.held policy.old) words.old octets.old) (lent table.new (P.Policy.held policy.new) words.new octets.new) }
+        ensures told { Tells P.Policy.obeys table.old table.new policy.old policy.new }
     {
         self.order_typed(
             Rule::Unblock,
@@ -175,6 +184,7 @@ impl Trunk {
     }
 
     // Resets every circuit of a PCM system.
+    #[tactic(auto, using(crate::proofs::Turning::tells_same))]
     pub fn group_reset<P: Policy>(
         self,
         system: usize,
@@ -185,6 +195,7 @@ impl Trunk {
     ) -> Result<(usize, usize), Refusal>
         ensures outcome { Outcome self.config (group_resetting self.config P.Policy.PLACES system) result (lent table.old (P.Policy.held policy.old) words.old octets.old) (lent table.new (P.Policy.held policy.new) words.new octets.new) }
         ensures alike { ResetAlike self.config system (group_resetting self.config P.Policy.PLACES system (lent table.old (P.Policy.held policy.old) words.old octets.old)) (lent table.old (P.Policy.held policy.old) words.old octets.old) (lent table.new (P.Policy.held policy.new) words.new octets.new) }
+        ensures told { Tells P.Policy.obeys table.old table.new policy.old policy.new }
     {
         self.admit(table, policy, words, octets)?;
         self.clear(system, table, policy, words, octets)

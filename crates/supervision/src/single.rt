@@ -7,6 +7,7 @@ ghost use Rattle.refusal.specs.Refusals.{and_then};
 ghost use Rattle.supervision.specs.Laws.{Outcome};
 ghost use Rattle.supervision.specs.Lending.{Suffices, lent};
 ghost use Rattle.supervision.specs.Orders.{admitted, singly, blocking, unblocking, resetting, releasing};
+ghost use Rattle.supervision.specs.Telling.{Tells};
 
 use crate::judging::cause_of;
 use crate::trunk::Trunk;
@@ -19,6 +20,7 @@ use status::Cic;
 impl Trunk {
     // Does an order for one circuit and sends its message.
     // Rule and message stay two, as `singly` takes them.
+    #[tactic(auto, using(crate::proofs::Turning::tells_same))]
     fn order<P: Policy>(
         self,
         cic: Cic,
@@ -32,13 +34,15 @@ impl Trunk {
         requires enough { Suffices self.config P.Policy.PLACES (lent table.old (P.Policy.held policy.old) words.old octets.old) }
         requires writable { cic.0 < 4096 → refusal_of (meaning message) ≡ None }
         requires short { length (encode (meaning message)) ≤ 320 }
-        ensures { Outcome self.config (λ before. singly self.config cic rule (meaning message.entry) before.table) result (lent table.old (P.Policy.held policy.old) words.old octets.old) (lent table.new (P.Policy.held policy.new) words.new octets.new) }
+        ensures outcome { Outcome self.config (λ before. singly self.config cic rule (meaning message.entry) before.table) result (lent table.old (P.Policy.held policy.old) words.old octets.old) (lent table.new (P.Policy.held policy.new) words.new octets.new) }
+        ensures told { Tells P.Policy.obeys table.old table.new policy.old policy.new }
     {
         let place = self.find(cic, rule, table)?;
         Ok(self.perform_at(place, rule, message, table, policy, words, octets))
     }
 
     // Does an order for one circuit whose message is its CIC alone.
+    #[tactic(auto, using(crate::proofs::Turning::tells_same))]
     fn order_single<P: Policy>(
         self,
         cic: Cic,
@@ -49,7 +53,8 @@ impl Trunk {
         words: &mut [u32],
         octets: &mut [u8],
     ) -> Result<(usize, usize), Refusal>
-        ensures { Outcome self.config (λ before. and_then (admitted self.config P.Policy.PLACES before) (λ _. singly self.config cic rule (single cic.0 kind) before.table)) result (lent table.old (P.Policy.held policy.old) words.old octets.old) (lent table.new (P.Policy.held policy.new) words.new octets.new) }
+        ensures outcome { Outcome self.config (λ before. and_then (admitted self.config P.Policy.PLACES before) (λ _. singly self.config cic rule (single cic.0 kind) before.table)) result (lent table.old (P.Policy.held policy.old) words.old octets.old) (lent table.new (P.Policy.held policy.new) words.new octets.new) }
+        ensures told { Tells P.Policy.obeys table.old table.new policy.old policy.new }
     {
         self.admit(table, policy, words, octets)?;
         let message = Message::Single(cic, kind);
@@ -57,6 +62,7 @@ impl Trunk {
     }
 
     // Releases a call, with the location and the value of its cause.
+    #[tactic(auto, using(crate::proofs::Turning::tells_same))]
     pub fn release<P: Policy>(
         self,
         cic: Cic,
@@ -67,7 +73,8 @@ impl Trunk {
         words: &mut [u32],
         octets: &mut [u8],
     ) -> Result<(usize, usize), Refusal>
-        ensures { Outcome self.config (releasing self.config P.Policy.PLACES cic location value) result (lent table.old (P.Policy.held policy.old) words.old octets.old) (lent table.new (P.Policy.held policy.new) words.new octets.new) }
+        ensures outcome { Outcome self.config (releasing self.config P.Policy.PLACES cic location value) result (lent table.old (P.Policy.held policy.old) words.old octets.old) (lent table.new (P.Policy.held policy.new) words.new octets.new) }
+        ensures told { Tells P.Policy.obeys table.old table.new policy.old policy.new }
     {
         self.admit(table, policy, words, octets)?;
         let cause = cause_of(location, value)?;
@@ -86,7 +93,8 @@ impl Trunk {
         words: &mut [u32],
         octets: &mut [u8],
     ) -> Result<(usize, usize), Refusal>
-        ensures { Outcome self.config (blocking self.config P.Policy.PLACES cic) result (lent table.old (P.Policy.held policy.old) words.old octets.old) (lent table.new (P.Policy.held policy.new) words.new octets.new) }
+        ensures outcome { Outcome self.config (blocking self.config P.Policy.PLACES cic) result (lent table.old (P.Policy.held policy.old) words.old octets.old) (lent table.new (P.Policy.held policy.new) words.new octets.new) }
+        ensures told { Tells P.Policy.obeys table.old table.new policy.old policy.new }
     {
         let rule = Rule::Block(BlockType::Maintenance);
         self.order_single(cic, rule, Single::Blo, table, policy, words, octets)
@@ -101,7 +109,8 @@ impl Trunk {
         words: &mut [u32],
         octets: &mut [u8],
     ) -> Result<(usize, usize), Refusal>
-        ensures { Outcome self.config (unblocking self.config P.Policy.PLACES cic) result (lent table.old (P.Policy.held policy.old) words.old octets.old) (lent table.new (P.Policy.held policy.new) words.new octets.new) }
+        ensures outcome { Outcome self.config (unblocking self.config P.Policy.PLACES cic) result (lent table.old (P.Policy.held policy.old) words.old octets.old) (lent table.new (P.Policy.held policy.new) words.new octets.new) }
+        ensures told { Tells P.Policy.obeys table.old table.new policy.old policy.new }
     {
         let rule = Rule::Unblock(BlockType::Maintenance);
         self.order_single(cic, rule, Single::Ubl, table, policy, words, octets)
@@ -116,7 +125,8 @@ impl Trunk {
         words: &mut [u32],
         octets: &mut [u8],
     ) -> Result<(usize, usize), Refusal>
-        ensures { Outcome self.config (resetting self.config P.Policy.PLACES cic) result (lent table.old (P.Policy.held policy.old) words.old octets.old) (lent table.new (P.Policy.held policy.new) words.new octets.new) }
+        ensures outcome { Outcome self.config (resetting self.config P.Policy.PLACES cic) result (lent table.old (P.Policy.held policy.old) words.old octets.old) (lent table.new (P.Policy.held policy.new) words.new octets.new) }
+        ensures told { Tells P.Policy.obeys table.old table.new policy.old policy.new }
     {
         let rule = Rule::Reset(Reset::Single);
         self.order_single(cic, rule, Single::Rsc, table, policy, words, octets)

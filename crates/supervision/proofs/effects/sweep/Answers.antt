@@ -1,6 +1,6 @@
 use Rattle.std.proofs.Common.{List, ◌≡◌, ℕ, ◌+◌, ◌-◌, ◌*◌, ◌<◌, ◌≤◌, map, length, get_or, set, take, drop, sym, ap, ◌∙◌, add-zero, add_assoc, arith}
 use borrow.Rule.Slice.PartMut.{put_mid, put_same}
-use Rattle.std.proofs.lemmas.List.{set-get_or}
+use Rattle.std.proofs.lemmas.List.{set-get_or, length-take-le}
 use Rattle.circuit.specs.Circuits.{vacant}
 use Rattle.circuit.specs.declared.record.Circuit.{Circuit}
 use Rattle.circuit.specs.Orders.{applied}
@@ -9,11 +9,12 @@ use Rattle.circuit.specs.Laws.{told_of}
 use Rattle.status.specs.declared.circuit.Cic.{Cic}
 use Rattle.told.specs.Words.{number_of}
 use Rattle.supervision.specs.Lending.{over}
-use Rattle.supervision.specs.Moves.{where_named, told_from}
+use Rattle.supervision.specs.Moves.{where_named, each_from, told_from}
 use Rattle.supervision.specs.Steps.{named_by}
 use Rattle.supervision.specs.Trunks.{cic_at}
 use Rattle.supervision.proofs.Naming.{covers_below, covers_past, covers_in, unnamed, unequipped, acts}
-use Rattle.supervision.proofs.Stepping.{stands_from, stands_more, stands_skip, stands_all, told_short}
+use Rattle.supervision.proofs.Stepping.{stands_from, stands_more, stands_skip, stands_all, told_short, length_each}
+use Rattle.supervision.proofs.Turning.{tells_same, tells_more}
 use Rattle.supervision.proofs.Writing.{get_in_part, part_at, set_in_part}
 use Rattle.supervision.proofs.effects.sweep.Goals as goal
 use Rattle.supervision.proofs.effects.sweep.Goals.{then-names+then-circuit, else-names, else-names-via-then-names+else-circuit, else-names-via-else-names}
@@ -28,6 +29,7 @@ loop-n-init g c =
           (stands_from c.args.trunk.config f first c.args.table.now (g.P.Policy.held c.args.policy.now) c.args.words.now (omega arith)
           (λ j a b x. unnamed named (λ _. applied c.args.rule) j x (covers_below first c.args.slots.group.range.0 c.args.slots.group.status.now j (omega arith)))),
       omega arith,
+      rw (put_same first k c.args.table.now) (tells_same g.P.Policy.obeys c.args.table.now c.args.policy.now),
     )
 
 pub loop-n-preserved : goal.loop-n-preserved
@@ -46,6 +48,8 @@ loop-n-preserved g c =
     let within = λ (ys : List Circuit). put_mid first (first + c.args.slots.group.range.0 + 1 - first) T ys in
     let at : get_or (within L) k vacant ≡ x = get_in_part first (first + c.args.slots.group.range.0 + 1 - first) T L n vacant (omega arith) (omega arith) in
     let in-range : k < length T = omega arith in
+    let out = each_from f 0 (take k T) in
+    let len : length out ≡ k = length_each f 0 (take k T) ∙ length-take-le k T (omega arith) in
     let few : length (told_from t f 0 (take k T)) ≤ n * 2 = rw (← c.loop-n.invariant.0.3) c.loop-n.invariant.1 in
     let is : c.names.result ≡ named k = c.names.ensures ∙ sym (covers_in first c.args.slots.group.range.0 c.args.slots.group.status.now n) in
     rw (← add_assoc first n 1)
@@ -68,6 +72,10 @@ loop-n-preserved g c =
                 (rw (at, e) (part_at c.loop-n.count (map number_of told) c.loop-n.words w.visit-count.new.words (omega arith) words))
                 (rw (at, e) (ap (λ (z : ℕ). c.loop-n.count + z) count))),
             omega (arith, w.count-is, count),
+            rw (w.circuits-is, w.policy-is)
+                (tells_more g.P.Policy.obeys out T (within L) (within (set L n w.visit-count.new.circuit)) (applied c.args.rule x).circuit k
+                c.args.policy.now c.loop-n.policy w.visit-count.new.policy
+                c.loop-n.invariant.0.0 len in-range table c.loop-n.invariant.2 (rw at w.visit-count.ensures.told)),
           )
       | else-names w ↦
           let q : f k x ≡ quiet x =
@@ -85,6 +93,7 @@ loop-n-preserved g c =
                 (within L) (g.P.Policy.held c.loop-n.policy) c.loop-n.words c.loop-n.count
                 c.loop-n.invariant.0 in-range (omega arith) (rw at q)),
             omega (arith, w.count-is),
+            rw (w.circuits-is, same, w.policy-is) c.loop-n.invariant.2,
           )
     ])
 
@@ -94,6 +103,9 @@ returns-clause-all g c =
     let named = named_by c.args.slots in
     let f = where_named named (λ _. applied c.args.rule) in
     stands_all c.args.trunk.config f (first + c.loop-n.n) c.args.table.now (g.P.Policy.held c.args.policy.now) c.args.words.now
-    _ (g.P.Policy.held c.loop-n.policy) c.loop-n.words c.loop-n.count
+    (put_mid first (first + c.args.slots.group.range.0 + 1 - first) c.args.table.now c.loop-n.circuits) (g.P.Policy.held c.loop-n.policy) c.loop-n.words c.loop-n.count
     c.loop-n.invariant.0 (omega arith)
     (λ j a x. unnamed named (λ _. applied c.args.rule) j x (covers_past first c.args.slots.group.range.0 c.args.slots.group.status.now j (omega arith)))
+
+pub returns-clause-told : goal.returns-clause-told
+returns-clause-told g c = c.loop-n.invariant.2

@@ -6,8 +6,6 @@ pub returns : goal.returns
 returns c =
     let me = c.args.self.now in
     record {
-      same = refl;
       member = member_of me.even me.links.links c.choose.result me.ok (c.choose.ensures me.even);
-      turn = c.choose.ensures me.even;
-      kept = refl;
+      picks = record { turn = c.choose.ensures me.even; kept = refl };
     }

@@ -32,9 +32,10 @@ returns g c =
     let all : ordered covered rule (group_reset (t.first.0 + (system * 32 + 1)) 30) ≡ move =
     ap (λ (m : Msg). ordered covered rule m) sent ∙ ap (λ (f : ℕ → Bool). ordered f rule msg) names in
     let status : c.slots_of-slots.result.group.status.now ≡ status_of every_slot = c.slots_of-slots.ensures.status in
-    let done = subst (λ (m : Move). Performed t m c.perform.result before after) all (rw (c.cic_at.ensures, c.slots_of-slots.ensures.first, c.slots_of-slots.ensures.range, status) at c.perform.ensures) in
+    let done = subst (λ (m : Move). Performed t m c.perform.result before after) all (rw (c.cic_at.ensures, c.slots_of-slots.ensures.first, c.slots_of-slots.ensures.range, status) at c.perform.ensures.done) in
     let a : clearing t system ≡ Ok move = rw far refl in
     record {
+      told = c.perform.ensures.told;
       outcome = outcome_of t (λ (_ : Lent). clearing t system) move c.perform.result before after
           (rw (g.met.P.Policy.sized c.args.policy.now) c.requires.enough.places) (λ k n e. order_keeps rule (placed T k) refl) a done;
       alike = rw a (λ k n message one h. ap (λ (y : Lent). placed y.table k) done.carries ∙ resets_alike t system msg T k n message one h);

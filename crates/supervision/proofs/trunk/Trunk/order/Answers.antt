@@ -8,8 +8,8 @@ use Rattle.supervision.proofs.Keeping.{outcome_of}
 use Rattle.supervision.proofs.Finishing.{passed}
 use Rattle.supervision.proofs.trunk.Trunk.order.Goals as goal
 
-pub returns : goal.returns
-returns g c =
+pub returns-clause-outcome : goal.returns-clause-outcome
+returns-clause-outcome g c =
     let t = c.args.self.config in
     let T = c.args.table.now in
     let here = circuit_of t c.args.cic T in
@@ -22,4 +22,4 @@ returns g c =
     outcome_of t (λ (b : Lent). singly t c.args.cic c.args.rule msg b.table) m c.perform_at.result before after
     (rw (g.met.P.Policy.sized c.args.policy.now) c.requires.enough.places)
     (singly_allowed t c.args.cic c.args.rule msg T m a) a
-    (rw v.2 at c.perform_at.ensures)
+    (rw v.2 at c.perform_at.ensures.done)

@@ -11,6 +11,7 @@ use Rattle.supervision.proofs.Alike.{group_order}
 use Rattle.supervision.proofs.Allowing.{groupwise_allowed}
 use Rattle.supervision.proofs.Grouping.{group_answer}
 use Rattle.supervision.proofs.Keeping.{outcome_of, outcome_refused}
+use Rattle.supervision.proofs.Turning.{tells_same}
 use Rattle.supervision.proofs.trunk.Trunk.order_group.Goals as goal
 
 pub returns-in_err-judge : goal.returns-in_err-judge
@@ -27,6 +28,7 @@ returns-in_err-judge g c =
       outcome = outcome_refused t (λ (b : Lent). groupwise t c.args.system c.args.mask c.args.rule msg b.table) p.0 c.from_residual.result
           (lent T (g.P.Policy.held c.args.policy.now) c.args.words.now c.args.octets.now) a p.1;
       group = rw a refl;
+      told = tells_same g.P.Policy.obeys T c.args.policy.now;
     }
 
 pub returns : goal.returns
@@ -48,8 +50,9 @@ returns g c =
     outcome_of t (λ (b : Lent). groupwise t c.args.system c.args.mask c.args.rule msg b.table) m c.perform.result before after
     (rw (g.met.P.Policy.sized c.args.policy.now) c.requires.enough.places)
     (groupwise_allowed t c.args.system c.args.mask c.args.rule msg T m a) a
-    (subst (λ (x : Msg). Performed t (ordered named c.args.rule x) c.perform.result before after) sent (rw (c.cic_at-cic.ensures, c.slots_of-slots.ensures.first, c.slots_of-slots.ensures.range, c.slots_of-slots.ensures.status) at c.perform.ensures)) in
+    (subst (λ (x : Msg). Performed t (ordered named c.args.rule x) c.perform.result before after) sent (rw (c.cic_at-cic.ensures, c.slots_of-slots.ensures.first, c.slots_of-slots.ensures.range, c.slots_of-slots.ensures.status) at c.perform.ensures.done)) in
     record {
       outcome = outcome;
+      told = c.perform.ensures.told;
       group = group_order t c.args.system c.args.mask c.args.rule msg before after (Ok c.perform.result) outcome.done;
     }

@@ -8,8 +8,8 @@ use Rattle.supervision.proofs.Finishing.{finished}
 use Rattle.supervision.proofs.Writing.{part_at}
 use Rattle.supervision.proofs.trunk.Trunk.perform.Goals as goal
 
-pub returns : goal.returns
-returns g c =
+pub returns-clause-done : goal.returns-clause-done
+returns-clause-done g c =
     let sent = number_of (Send 0 (length (encode (meaning c.args.message)))) in
     let end = finished c.args.self.config (named_by c.args.slots) c.args.rule (meaning c.args.message)
     c.args.table.now (g.P.Policy.held c.args.policy.now) c.args.words.now c.args.octets.now

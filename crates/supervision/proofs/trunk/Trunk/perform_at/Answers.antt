@@ -12,11 +12,12 @@ use Rattle.supervision.specs.Lending.{over}
 use Rattle.supervision.specs.Trunks.{cic_at}
 use Rattle.supervision.proofs.Finishing.{stood_one, finished}
 use Rattle.supervision.proofs.Stepping.{told_short}
+use Rattle.supervision.proofs.Turning.{tells_one}
 use Rattle.supervision.proofs.Writing.{length_over, part_at}
 use Rattle.supervision.proofs.trunk.Trunk.perform_at.Goals as goal
 
-pub returns : goal.returns
-returns g c =
+pub returns-clause-done : goal.returns-clause-done
+returns-clause-done g c =
     let t = c.args.self.config in
     let T = c.args.table.now in
     let H = g.P.Policy.held c.args.policy.now in
@@ -38,3 +39,9 @@ returns g c =
       carries = end.1;
       within = rw c.send-length.ensures.count (omega (arith, count), omega (arith, c.requires.sendable.short));
     }
+
+pub returns-clause-told : goal.returns-clause-told
+returns-clause-told g c =
+    let T = c.args.table.now in
+    let p = c.args.place.0 in
+    rw c.visit-count.ensures.circuit (tells_one g.P.Policy.obeys T (applied c.args.rule (get_or T p vacant)).circuit p c.args.policy.now c.visit-count.new.policy c.requires.inside c.visit-count.ensures.told)

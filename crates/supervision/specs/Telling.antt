@@ -1,0 +1,34 @@
+-- What an operation tells the policy: what opened is offered, what closed is withdrawn, by rising place.
+use Rattle.std.specs.Prelude.{ℕ, zero, suc, Bool, true, false, List, [], ◌∷◌, ◌++◌, map}
+use Rattle.std.specs.List.{range_with_len}
+use Rattle.circuit.specs.Circuits.{is_open}
+use Rattle.circuit.specs.declared.record.Circuit.{Circuit}
+use Rattle.policy.specs.Sets.{Follows}
+use Rattle.policy.specs.declared.interface.Word.{Word}
+use Rattle.policy.specs.declared.interface.Word.TheVariants.{Offer, Withdraw}
+
+-- the word about the place k, from whether its circuit was open before and is open after; none where that is as it was
+abbrev pub word_at : ℕ → Bool → Bool → List Word
+word_at k true true = []
+word_at k true false = Withdraw (record { 0 = k }) ∷ []
+word_at k false true = Offer (record { 0 = k }) ∷ []
+word_at k false false = []
+
+-- the words about each place from k on
+abbrev pub words_from : ℕ → List Circuit → List Circuit → List Word
+words_from k [] cs = []
+words_from k (b ∷ bs) [] = []
+words_from k (b ∷ bs) (c ∷ cs) = word_at k (is_open b) (is_open c) ++ words_from (suc k) bs cs
+
+-- a policy is told just this, of a table before and after
+abbrev pub Tells : {P : Type 0} → (Word → P → P → Type 0) → List Circuit → List Circuit → P → P → Type 0
+Tells obeys before after p q = Follows obeys (words_from zero before after) p q
+
+-- opening: every place is withdrawn
+abbrev pub withdrawals : ℕ → List Word
+withdrawals room = map (λ k. Withdraw (record { 0 = k })) (range_with_len 0 room)
+
+-- and then the open circuits are offered, from the place k on
+abbrev pub offers_from : ℕ → List Circuit → List Word
+offers_from k [] = []
+offers_from k (c ∷ cs) = word_at k false (is_open c) ++ offers_from (suc k) cs
