@@ -6,7 +6,8 @@ use status::ParamFault;
 use std::error::Error;
 use std::fmt;
 
-// Layout, limit and unknown type carry the type octet as a number, since one that is not listed has no kind.
+// Layout, limit and unknown type carry the type octet as it was received, and it comes up so to the operations. One that is
+// not listed has no kind either.
 #[derive(Clone, Copy, PartialEq, Eq, Debug)]
 pub enum MessageFault {
     // The output is shorter than the message.
