@@ -38,7 +38,6 @@ fn slots_of(system: usize, status: &[u8]) -> Slots<'_>
 
 impl Trunk {
     // Does an order for the circuits of a mask and sends its message.
-    #[tactic(auto, using(crate::proofs::Turning::tells_same))]
     fn order_group<P: Policy>(
         self,
         system: usize,
@@ -68,7 +67,6 @@ impl Trunk {
     }
 
     // Resets the circuits of a PCM system and sends the message.
-    #[tactic(auto, using(crate::proofs::Turning::tells_same))]
     fn clear<P: Policy>(
         self,
         system: usize,
@@ -94,7 +92,6 @@ impl Trunk {
 
     // Does an order of a type for the circuits of a mask, by the rule for that type.
     // Type, PCM system and mask stay three numbers, as the operations take them.
-    #[tactic(auto, using(crate::proofs::Turning::tells_same))]
     fn order_typed<P: Policy, F: Fn(BlockType) -> Rule>(
         self,
         rule: F,
@@ -184,7 +181,6 @@ impl Trunk {
     }
 
     // Resets every circuit of a PCM system.
-    #[tactic(auto, using(crate::proofs::Turning::tells_same))]
     pub fn group_reset<P: Policy>(
         self,
         system: usize,

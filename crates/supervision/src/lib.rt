@@ -1,5 +1,5 @@
 // Supervision of the circuits of a trunk: opening, and the orders of our side.
-#![tactic(auto)]
+#![tactic(auto, using(crate::proofs::Turning::tells_same))]
 
 mod addressing;
 mod effects;

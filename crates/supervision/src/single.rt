@@ -20,7 +20,6 @@ use status::Cic;
 impl Trunk {
     // Does an order for one circuit and sends its message.
     // Rule and message stay two, as `singly` takes them.
-    #[tactic(auto, using(crate::proofs::Turning::tells_same))]
     fn order<P: Policy>(
         self,
         cic: Cic,
@@ -42,7 +41,6 @@ impl Trunk {
     }
 
     // Does an order for one circuit whose message is its CIC alone.
-    #[tactic(auto, using(crate::proofs::Turning::tells_same))]
     fn order_single<P: Policy>(
         self,
         cic: Cic,
@@ -62,7 +60,6 @@ impl Trunk {
     }
 
     // Releases a call, with the location and the value of its cause.
-    #[tactic(auto, using(crate::proofs::Turning::tells_same))]
     pub fn release<P: Policy>(
         self,
         cic: Cic,
