@@ -25,7 +25,7 @@ progress_keeps c = search arith
 pub rel_keeps : (c : Circuit) → Keeps c (on_rel c)
 rel_keeps c = search arith
 
-pub rlc_keeps : (c : Circuit) → Keeps c (on_rlc c.reset c)
+pub rlc_keeps : (c : Circuit) → Keeps c (on_rlc c)
 rlc_keeps c = search arith
 
 pub far_block_keeps : (why : BlockType) (c : Circuit) → Keeps c (on_far_block why c)
@@ -46,7 +46,7 @@ rsc_keeps c = search arith
 pub grs_keeps : (c : Circuit) → Keeps c (on_grs c)
 grs_keeps c = search arith
 
-pub gra_keeps : (b : Bool) (c : Circuit) → Keeps c (on_gra b c.reset c)
+pub gra_keeps : (b : Bool) (c : Circuit) → Keeps c (on_gra b c)
 gra_keeps b c = search arith
 
 -- a reset keeps them at any circuit

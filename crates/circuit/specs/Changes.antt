@@ -16,19 +16,19 @@ use Rattle.told.specs.declared.kinds.EndCause.TheVariants as end
 use Rattle.circuit.specs.Circuits.{is_idle}
 
 abbrev pub with_call : Call → Circuit → Circuit
-with_call x c = record { equipped = c.equipped; call = x; local = c.local; far = c.far; reset = c.reset; cause = c.cause }
+with_call x c = record c { call = x }
 
 abbrev pub with_locals : Blocks LocalBlock → Circuit → Circuit
-with_locals x c = record { equipped = c.equipped; call = c.call; local = x; far = c.far; reset = c.reset; cause = c.cause }
+with_locals x c = record c { local = x }
 
 abbrev pub with_fars : Blocks Bool → Circuit → Circuit
-with_fars x c = record { equipped = c.equipped; call = c.call; local = c.local; far = x; reset = c.reset; cause = c.cause }
+with_fars x c = record c { far = x }
 
 abbrev pub with_reset : Reset → Circuit → Circuit
-with_reset x c = record { equipped = c.equipped; call = c.call; local = c.local; far = c.far; reset = x; cause = c.cause }
+with_reset x c = record c { reset = x }
 
 abbrev pub with_cause : Cause → Circuit → Circuit
-with_cause x c = record { equipped = c.equipped; call = c.call; local = c.local; far = c.far; reset = c.reset; cause = x }
+with_cause x c = record c { cause = x }
 
 -- the end that is told where a call is ended: none of an idle one
 abbrev pub ended_if : EndCause → Call → Option EndCause

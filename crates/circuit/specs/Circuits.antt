@@ -90,8 +90,8 @@ block_of Hardware b = b.hardware
 
 -- another value for one type
 abbrev pub with_block : {X : Type 0} → BlockType → X → Blocks X → Blocks X
-with_block Maintenance x b = record { maintenance = x; hardware = b.hardware }
-with_block Hardware x b = record { maintenance = b.maintenance; hardware = x }
+with_block Maintenance x b = record b { maintenance = x }
+with_block Hardware x b = record b { hardware = x }
 
 -- the call is not idle
 abbrev pub is_engaged : Circuit → Bool

@@ -42,9 +42,9 @@ pub record Keeps (c : Circuit) (d : Change) : Type 0 where
   -- the words told fit the call before and after
   pub turns : (cic : Cic) → Turns (is_engaged c) (told_of cic d) (is_engaged d.circuit)
 
--- a circuit reset finds no group reset
+-- a circuit reset finds no group reset; no order makes a circuit wait for nothing
 abbrev pub allows_reset : Reset → Reset → Bool
-allows_reset reset.None now = true
+allows_reset reset.None now = false
 allows_reset reset.Single now = not (is_group now)
 allows_reset reset.Group now = true
 

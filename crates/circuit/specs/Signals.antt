@@ -6,24 +6,23 @@ use Rattle.circuit.specs.declared.record.Call.{Call}
 use Rattle.circuit.specs.declared.record.Call.TheVariants.{Idle, Calling, Talking, Releasing}
 use Rattle.circuit.specs.declared.record.LocalBlock.{LocalBlock}
 use Rattle.circuit.specs.declared.record.LocalBlock.TheVariants as local
-use Rattle.circuit.specs.declared.record.Reset.{Reset}
 use Rattle.circuit.specs.declared.record.Reset.TheVariants as reset
 use Rattle.circuit.specs.declared.record.Cause.{Cause}
 use Rattle.circuit.specs.declared.record.Circuit.{Circuit}
 use Rattle.circuit.specs.declared.rules.Change.{Change}
 use Rattle.told.specs.declared.kinds.Direction.TheVariants.{Incoming}
 use Rattle.told.specs.declared.kinds.EndCause.TheVariants as end
-use Rattle.circuit.specs.Circuits.{is_none, is_set, is_waiting, is_calling, is_connected, block_of, with_block, no_far}
+use Rattle.circuit.specs.Circuits.{is_none, is_set, is_waiting, is_calling, is_connected, is_group, is_single, block_of, with_block, no_far}
 use Rattle.circuit.specs.Changes.{with_call, with_locals, with_fars, with_reset, with_cause, change, quiet, ending, under_block}
 
--- IAM does nothing while a reset waits, the local hardware block is not none, the local maintenance block is set,
--- or the call is talking or releasing, nor on a calling circuit that we control
+-- IAM does nothing while the call is talking or releasing, nor on a calling circuit that we control
 abbrev pub passes_call : Bool → Call → Bool
 passes_call control Idle = false
 passes_call control Calling = control
 passes_call control Talking = true
 passes_call control Releasing = true
 
+-- nor while a reset waits, the local hardware block is not none, or the local maintenance block is set
 abbrev pub passes_iam : Bool → Circuit → Bool
 passes_iam control c =
     is_waiting c.reset || (not (is_none c.local.hardware) || (is_set c.local.maintenance || passes_call control c.call))
@@ -54,10 +53,8 @@ on_rlc_call Talking c = quiet (with_cause unexpected (with_call Releasing c))
 on_rlc_call Releasing c = ending end.ReleaseComplete c
 
 -- RLC ends a single reset
-abbrev pub on_rlc : Reset → Circuit → Change
-on_rlc reset.None c = on_rlc_call c.call c
-on_rlc reset.Single c = quiet (with_reset reset.None c)
-on_rlc reset.Group c = on_rlc_call c.call c
+abbrev pub on_rlc : Circuit → Change
+on_rlc c = cond (is_single c.reset) (quiet (with_reset reset.None c)) (on_rlc_call c.call c)
 
 -- BLO, and CGB for its type: the far block is set; one for hardware ends the call
 abbrev pub on_far_block : BlockType → Circuit → Change
@@ -104,7 +101,5 @@ abbrev pub on_grs : Circuit → Change
 on_grs c = ending end.Reset (with_fars no_far (with_locals (with_block Hardware (asked_again c.local.hardware) c.local) c))
 
 -- GRA: a group reset that waits ends, and the status bit becomes the far maintenance block
-abbrev pub on_gra : Bool → Reset → Circuit → Change
-on_gra bit reset.None c = quiet c
-on_gra bit reset.Single c = quiet c
-on_gra bit reset.Group c = quiet (with_reset reset.None (with_fars (with_block Maintenance bit c.far) c))
+abbrev pub on_gra : Bool → Circuit → Change
+on_gra bit c = cond (is_group c.reset) (quiet (with_reset reset.None (with_fars (with_block Maintenance bit c.far) c))) (quiet c)

@@ -1,4 +1,4 @@
-// One circuit: its record, and what each rule does to it.
+// One circuit: its record, and what the orders of our side do to it.
 #![tactic(auto)]
 
 mod record;

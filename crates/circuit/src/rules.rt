@@ -25,7 +25,7 @@ pub enum Rule {
     Release(Cause),
     Block(BlockType),
     Unblock(BlockType),
-    // the reset that waits then; a type without its None would ask more of callers
+    // the reset that waits then, which is never none
     Reset(Reset),
 }
 
@@ -130,8 +130,9 @@ impl Rule {
             Rule::Seize => circuit.is_open(),
             Rule::Release(_) => circuit.call.is_connected(),
             Rule::Block(_) | Rule::Unblock(_) => !circuit.reset.is_waiting(),
+            Rule::Reset(Reset::None) => false,
             Rule::Reset(Reset::Single) => !circuit.reset.is_group(),
-            Rule::Reset(_) => true,
+            Rule::Reset(Reset::Group) => true,
         }
     }
 

@@ -81,7 +81,7 @@ heard_allowed t (grouped c Cgua i r s) T m e = range_allowed t c r s _ T m (λ k
 heard_allowed t (group_reset c r) T m e = range_allowed t c r [] _ T m (λ k n q. grs_keeps (placed T k)) e
 heard_allowed t (group_reset_ack c r s) T m e =
     range_allowed t c r s _ T m
-    (choose_allowed (is_counted t c r) (moving (in_range t c r) (λ k x. on_gra (is_named r s (k - (c - t.first.0))) x.reset x) []) nothing T
+    (choose_allowed (is_counted t c r) (moving (in_range t c r) (λ k. on_gra (is_named r s (k - (c - t.first.0)))) []) nothing T
     (λ k n q. gra_keeps (is_named r s (k - (c - t.first.0))) (placed T k)) (nothing_allowed T))
     e
 

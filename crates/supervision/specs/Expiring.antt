@@ -1,7 +1,7 @@
 -- What the rules answer to an expiry: a message still waited for is repeated.
 use Rattle.std.specs.Prelude.{ℕ, Bool, false, cond, not, ◌&&◌, List, [], ◌∷◌, Some, None, Ok, Err, Option, Result, ◌==◌, nat_le, nat_lt}
 use Rattle.status.specs.declared.circuit.Cic.{Cic}
-use Rattle.message.specs.Msg.{Msg, single, release, group_reset}
+use Rattle.message.specs.Msg.{Msg, single, release}
 use Rattle.message.specs.declared.kinds.BlockType.{BlockType}
 use Rattle.message.specs.declared.kinds.Grouped.{Grouped}
 use Rattle.message.specs.declared.kinds.Grouped.TheVariants.{Cgb, Cgu}
@@ -20,7 +20,7 @@ use Rattle.supervision.specs.declared.trunk.Config.{Config}
 use Rattle.supervision.specs.Groups.{mask_by, group_for}
 use Rattle.supervision.specs.Lending.{Lent}
 use Rattle.supervision.specs.Moves.{Move}
-use Rattle.supervision.specs.Orders.{admitted, circuit_of, only, why_of}
+use Rattle.supervision.specs.Orders.{admitted, circuit_of, only, why_of, reset_message}
 use Rattle.supervision.specs.Receiving.{as_cic, nothing}
 use Rattle.refusal.specs.Refusals.{unless, and_then}
 use Rattle.supervision.specs.Trunks.{first_of}
@@ -56,7 +56,7 @@ abbrev pub repeats_reset : Config → ℕ → Option (Timer × Cic) → List Cir
 repeats_reset t system alert table =
     unless (nat_le t.systems system) Address
     (Ok (cond (mask_by (λ _ x. x.equipped && is_group x.reset) system table == 0) nothing
-    (repeating (group_reset (first_of t system) 30 ∷ []) alert)))
+    (repeating (reset_message t system ∷ []) alert)))
 
 abbrev pub asked_for : BlockType → Circuit → Bool
 asked_for why x = is_asked (block_of why x.local)

@@ -1,15 +1,13 @@
 -- Group messages of our own, and status bits by what the circuits say.
 use Rattle.std.specs.Prelude.{ℕ, zero, suc, ◌+◌, ◌*◌, ◌^◌, Bool, cond, ◌&&◌, List, [], ◌∷◌, ◌++◌, ◌==◌, nat_le, nat_lt}
-use Rattle.message.specs.Meaning.{indicator_of}
-use Rattle.message.specs.Msg.{Msg, grouped}
+use Rattle.message.specs.Msg.{Msg}
 use Rattle.message.specs.declared.kinds.BlockType.{BlockType}
 use Rattle.message.specs.declared.kinds.Grouped.{Grouped}
 use Rattle.circuit.specs.declared.record.Circuit.{Circuit}
 use Rattle.status.specs.Bits.{octets_for}
 use Rattle.supervision.specs.declared.trunk.Config.{Config}
 use Rattle.supervision.specs.Laws.{placed}
-use Rattle.supervision.specs.Orders.{status_of}
-use Rattle.supervision.specs.Trunks.{first_of}
+use Rattle.supervision.specs.Orders.{group_message}
 
 -- the number whose bits below n are set where the test holds
 abbrev pub bits_below : (ℕ → Bool) → ℕ → ℕ
@@ -24,7 +22,7 @@ mask_by p system table = bits_below (λ slot. nat_lt 0 slot && p (system * 32 + 
 abbrev pub group_for : Config → Grouped → BlockType → (ℕ → Circuit → Bool) → ℕ → List Circuit → List Msg
 group_for t what why p system table =
     cond (mask_by p system table == 0) []
-    (grouped (first_of t system) what (indicator_of why) 30 (status_of (mask_by p system table)) ∷ [])
+    (group_message t system what why (mask_by p system table) ∷ [])
 
 -- one for each of the first n PCM systems concerned, rising
 abbrev pub groups_below : Config → Grouped → BlockType → (ℕ → Circuit → Bool) → ℕ → List Circuit → List Msg

@@ -4,11 +4,11 @@ use Rattle.status.specs.Bits.{is_named}
 use Rattle.message.specs.Msg.{Msg}
 use Rattle.circuit.specs.Changes.{with_reset}
 use Rattle.circuit.specs.Circuits.{vacant, is_open, is_sound, is_engaged}
-use Rattle.circuit.specs.Laws.{Turns}
+use Rattle.circuit.specs.Laws.{Turns, told_of}
+use Rattle.circuit.specs.Orders.{on_reset}
 use Rattle.circuit.specs.declared.record.Circuit.{Circuit}
 use Rattle.circuit.specs.declared.record.Reset.TheVariants as reset
 use Rattle.circuit.specs.declared.rules.Rule.{Rule}
-use Rattle.circuit.specs.declared.rules.Rule.TheVariants.{Reset}
 use Rattle.told.specs.declared.kinds.Word.{Word}
 use Rattle.told.specs.declared.kinds.Word.TheVariants.{Send, Begun, Ended, Alert}
 use Rattle.refusal.specs.declared.reasons.Refusal.{Refusal}
@@ -71,21 +71,23 @@ pub record Outcome (t : Config) (answer : Lent → Result Move Refusal) (r : Res
   pub within : IfOk r (λ n. (n.0 ≤ length before.words) × (n.1 ≤ length before.octets))
 
 -- a group order that was accepted
-pub record GroupOrder (t : Config) (system mask : ℕ) (rule : Rule) (before after : Lent) : Type 0 where
-  -- each named circuit could have had the order alone, and is as that would leave it
+pub record GroupOrder (t : Config) (system mask : ℕ) (rule : Rule) (m : Move) (before after : Lent) : Type 0 where
+  -- each named circuit could have had the order alone, is as that would leave it, and is told of as that would tell
   pub alike : (k : ℕ) → slots system mask k ≡ true → k < length before.table → (message : Msg)
-      → (m : Move) × (singly t (cic_at t k) rule message before.table ≡ Ok m) × (placed after.table k ≡ placed (table_of m before.table) k)
+      → (one : Move) × (singly t (cic_at t k) rule message before.table ≡ Ok one) × (placed after.table k ≡ placed (table_of one before.table) k)
+      × (about (t.first.0 + k) (words_of t m before.table) ≡ about (t.first.0 + k) (words_of t one before.table))
   -- the status of the message names exactly the circuits of the mask
   pub names : (n : ℕ) → n ≤ 30 → is_named 30 (status_of mask) n ≡ slots system mask (system * 32 + 1 + n)
 
 abbrev pub GroupLaws : Config → ℕ → ℕ → Rule → Result Move Refusal → Lent → Lent → Type 0
 GroupLaws t system mask rule (Err e) before after = after ≡ before
-GroupLaws t system mask rule (Ok m) before after = GroupOrder t system mask rule before after
+GroupLaws t system mask rule (Ok m) before after = GroupOrder t system mask rule m before after
 
--- a group reset leaves each circuit of the PCM system as a circuit reset would, but that the group's answer is waited for
+-- a group reset leaves each circuit of the PCM system as a circuit reset does, but that the group's answer is waited for,
+-- and tells of it as that does
 abbrev pub ResetAlike : Config → ℕ → Result Move Refusal → Lent → Lent → Type 0
 ResetAlike t system (Err e) before after = after ≡ before
 ResetAlike t system (Ok m) before after =
-    (k : ℕ) → slots system every_slot k ≡ true → (message : Msg) (one : Move)
-    → singly t (cic_at t k) (Reset reset.Single) message before.table ≡ Ok one
-    → placed after.table k ≡ with_reset reset.Group (placed (table_of one before.table) k)
+    (k : ℕ) → slots system every_slot k ≡ true → k < length before.table → (placed before.table k).equipped ≡ true
+    → (placed after.table k ≡ with_reset reset.Group (on_reset reset.Single (placed before.table k)).circuit)
+    × (about (t.first.0 + k) (words_of t m before.table) ≡ told_of (cic_at t k) (on_reset reset.Single (placed before.table k)))

@@ -82,6 +82,13 @@ every_slot = 0xffff_fffe
 abbrev pub status_of : ℕ → List ℕ
 status_of mask = (mask / 2 % 256) ∷ (mask / 2 / 256 % 256) ∷ (mask / 2 / 65536 % 256) ∷ (mask / 2 / 16777216 % 256) ∷ []
 
+-- our group messages cover a PCM system, from time slot 1 with range 30
+abbrev pub group_message : Config → ℕ → Grouped → BlockType → ℕ → Msg
+group_message t system what why mask = grouped (first_of t system) what (indicator_of why) 30 (status_of mask)
+
+abbrev pub reset_message : Config → ℕ → Msg
+reset_message t system = group_reset (first_of t system) 30
+
 -- an order for circuits of a PCM system; time slot 0 is none
 abbrev pub groupwise : Config → ℕ → ℕ → Rule → Msg → List Circuit → Result Move Refusal
 groupwise t system mask rule message table =
@@ -103,7 +110,7 @@ abbrev pub typed : (BlockType → Rule) → Grouped → Config → ℕ → ℕ �
 typed rule what t room kind system mask lent =
     and_then (admitted t room lent)
     (λ _. and_then (type_of kind mask)
-    (λ why. groupwise t system mask (rule why) (grouped (first_of t system) what (indicator_of why) 30 (status_of mask)) lent.table))
+    (λ why. groupwise t system mask (rule why) (group_message t system what why mask) lent.table))
 
 abbrev pub group_blocking : Config → ℕ → ℕ → ℕ → ℕ → Lent → Result Move Refusal
 group_blocking t room kind system mask lent = typed Block Cgb t room kind system mask lent
@@ -115,7 +122,7 @@ group_unblocking t room kind system mask lent = typed Unblock Cgu t room kind sy
 abbrev pub clearing : Config → ℕ → Result Move Refusal
 clearing t system =
     unless (nat_le t.systems system) Address
-    (Ok (ordered (slots system every_slot) (Reset reset.Group) (group_reset (first_of t system) 30)))
+    (Ok (ordered (slots system every_slot) (Reset reset.Group) (reset_message t system)))
 
 abbrev pub group_resetting : Config → ℕ → ℕ → Lent → Result Move Refusal
 group_resetting t room system lent = and_then (admitted t room lent) (λ _. clearing t system)

@@ -1,5 +1,5 @@
 -- What the rules answer to a message from the far exchange: a refusal, or a move.
-use Rattle.std.specs.Prelude.{ℕ, ◌+◌, ◌-◌, ◌%◌, Bool, false, cond, not, ◌&&◌, List, [], ◌∷◌, ◌++◌, None, Ok, Result, ◌==◌, nat_le, nat_lt}
+use Rattle.std.specs.Prelude.{ℕ, ◌+◌, ◌-◌, ◌/◌, ◌%◌, Bool, false, cond, not, ◌&&◌, List, [], ◌∷◌, ◌++◌, None, Ok, Result, ◌==◌, nat_le, nat_lt}
 use Rattle.status.specs.Bits.{is_named}
 use Rattle.status.specs.declared.circuit.Cic.{Cic}
 use Rattle.message.specs.Decode.{decode}
@@ -16,8 +16,7 @@ use Rattle.circuit.specs.declared.rules.Change.{Change}
 use Rattle.refusal.specs.declared.reasons.Refusal.{Refusal}
 use Rattle.refusal.specs.declared.reasons.Refusal.TheVariants.{Address}
 use Rattle.supervision.specs.declared.trunk.Config.{Config}
-use Rattle.supervision.specs.Groups.{groups, status_by}
-use Rattle.supervision.specs.Laws.{placed}
+use Rattle.supervision.specs.Groups.{groups, group_for, status_by}
 use Rattle.supervision.specs.Lending.{Lent}
 use Rattle.supervision.specs.Moves.{Move, some_from}
 use Rattle.supervision.specs.Orders.{admitted, circuit_of, only, why_of}
@@ -67,7 +66,11 @@ to_range t c r s m table =
 
 -- the hardware block of one circuit, asked again
 abbrev pub ask_again : Config → ℕ → List Circuit → List Msg
-ask_again t c table = groups t Cgb Hardware (λ k x. only t (as_cic c) k && is_standing x.local.hardware) table
+ask_again t c table = group_for t Cgb Hardware (λ k x. only t (as_cic c) k && is_standing x.local.hardware) ((c - t.first.0) / 32) table
+
+-- a group reset is answered where our maintenance block is asked or set
+abbrev pub shows : Circuit → Bool
+shows x = x.equipped && is_standing x.local.maintenance
 
 -- an RLC that no reset and no release of ours waits for
 abbrev pub is_unexpected : Circuit → Bool
@@ -85,7 +88,7 @@ heard t (single c Uba) table = to_one t c (on_unblock_ack Maintenance) (λ x. if
 heard t (single c Rsc) table =
     to_one t c on_rsc (λ x. if_so (is_standing x.local.maintenance) (single c Blo) ++ (ask_again t c table ++ (release_complete c ∷ []))) table
 heard t (release_complete c) table =
-    to_one t c (λ x. on_rlc x.reset x) (λ x. if_so (is_unexpected x) (release c (0x87 ∷ 0x9f ∷ []))) table
+    to_one t c on_rlc (λ x. if_so (is_unexpected x) (release c (0x87 ∷ 0x9f ∷ []))) table
 heard t (release c cause) table = to_one t c on_rel (λ _. release_complete c ∷ []) table
 heard t (call c Iam body) table = to_one t c (on_iam (controls t (as_cic c))) (λ _. []) table
 heard t (call c Acm body) table = to_one t c on_progress (λ _. []) table
@@ -106,11 +109,11 @@ heard t (group_reset c r) table =
     to_range t c r []
     (moving (in_range t c r) (λ _. on_grs)
     (groups t Cgb Hardware (λ k x. x.equipped && (in_range t c r k && is_standing x.local.hardware)) table
-    ++ (group_reset_ack c r (status_by (λ n. (placed table (c - t.first.0 + n)).equipped && is_standing (placed table (c - t.first.0 + n)).local.maintenance) r) ∷ [])))
+    ++ (group_reset_ack c r (status_by (λ n. shows (circuit_of t (as_cic (c + n)) table)) r) ∷ [])))
     table
 heard t (group_reset_ack c r s) table =
     to_range t c r s
-    (cond (is_counted t c r) (moving (in_range t c r) (λ k x. on_gra (is_named r s (k - (c - t.first.0))) x.reset x) []) nothing)
+    (cond (is_counted t c r) (moving (in_range t c r) (λ k. on_gra (is_named r s (k - (c - t.first.0)))) []) nothing)
     table
 
 abbrev pub receiving : Config → ℕ → List ℕ → Lent → Result Move Refusal

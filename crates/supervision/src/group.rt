@@ -1,12 +1,9 @@
 // Orders for circuits of a PCM system.
 ghost use Rattle.std.specs.Prelude.{◌≡◌, ◌+◌, ◌*◌, ◌<◌};
-ghost use Rattle.message.specs.Meaning.{indicator_of};
-ghost use Rattle.message.specs.Msg.{grouped};
 ghost use Rattle.supervision.specs.Laws.{Outcome, GroupLaws, ResetAlike};
 ghost use Rattle.supervision.specs.Lending.{Suffices, lent};
-ghost use Rattle.supervision.specs.Orders.{groupwise, typed, clearing, status_of, why_of, group_blocking, group_unblocking, group_resetting};
+ghost use Rattle.supervision.specs.Orders.{groupwise, typed, clearing, status_of, why_of, group_message, group_blocking, group_unblocking, group_resetting};
 ghost use Rattle.supervision.specs.Telling.{Tells};
-ghost use Rattle.supervision.specs.Trunks.{first_of};
 
 use crate::judging::type_of;
 use crate::slots::Slots;
@@ -51,8 +48,8 @@ impl Trunk {
         octets: &mut [u8],
     ) -> Result<(usize, usize), Refusal>
         requires enough { Suffices self.config P.Policy.PLACES (lent table.old (P.Policy.held policy.old) words.old octets.old) }
-        ensures outcome { Outcome self.config (λ before. groupwise self.config system mask rule (grouped (first_of self.config system) what (indicator_of why) 30 (status_of mask)) before.table) result (lent table.old (P.Policy.held policy.old) words.old octets.old) (lent table.new (P.Policy.held policy.new) words.new octets.new) }
-        ensures group { GroupLaws self.config system mask rule (groupwise self.config system mask rule (grouped (first_of self.config system) what (indicator_of why) 30 (status_of mask)) table.old) (lent table.old (P.Policy.held policy.old) words.old octets.old) (lent table.new (P.Policy.held policy.new) words.new octets.new) }
+        ensures outcome { Outcome self.config (λ before. groupwise self.config system mask rule (group_message self.config system what why mask) before.table) result (lent table.old (P.Policy.held policy.old) words.old octets.old) (lent table.new (P.Policy.held policy.new) words.new octets.new) }
+        ensures group { GroupLaws self.config system mask rule (groupwise self.config system mask rule (group_message self.config system what why mask) table.old) (lent table.old (P.Policy.held policy.old) words.old octets.old) (lent table.new (P.Policy.held policy.new) words.new octets.new) }
         ensures told { Tells P.Policy.obeys table.old table.new policy.old policy.new }
     {
         if system >= self.config.systems || mask % 2 == 1 {

@@ -38,5 +38,5 @@ returns g c =
       told = c.perform.ensures.told;
       outcome = outcome_of t (λ (_ : Lent). clearing t system) move c.perform.result before after
           (rw (g.met.P.Policy.sized c.args.policy.now) c.requires.enough.places) (λ k n e. order_keeps rule (placed T k) refl) a done;
-      alike = rw a (λ k n message one h. ap (λ (y : Lent). placed y.table k) done.carries ∙ resets_alike t system msg T k n message one h);
+      alike = rw a (λ k n l e. let w = resets_alike t system msg T k n l e in (ap (λ (y : Lent). placed y.table k) done.carries ∙ w.0, w.1));
     }
