@@ -1,13 +1,13 @@
 -- What the policy is told, from place to place.
-use Rattle.std.proofs.Common.{◌≡◌, ℕ, suc, ◌+◌, ◌<◌, Bool, true, false, List, [], ◌∷◌, ◌++◌, length, get_or, take, set, sym, refl, ap, ◌∙◌, append_assoc, add-zero, zero-add, arith}
-use Rattle.std.proofs.lemmas.List.{append-nil, length-take-le, take-append-drop, take_more}
+use Rattle.std.proofs.Common.{◌≡◌, ℕ, suc, ◌+◌, ◌<◌, ◌≤◌, Bool, true, false, List, [], ◌∷◌, ◌++◌, length, get_or, take, drop, set, sym, refl, ap, ◌∙◌, append_assoc, add-zero, zero-add, arith}
+use Rattle.std.proofs.lemmas.List.{append-nil, length-take-le, take-append-drop, take_more, take_all, drop_all, length-map, get_or-map}
 use Rattle.circuit.specs.Circuits.{is_open, vacant}
 use Rattle.circuit.specs.declared.record.Circuit.{Circuit}
 use Rattle.policy.proofs.Words.{follows_append}
 use Rattle.policy.specs.Sets.{Follows}
 use Rattle.policy.specs.declared.interface.Word.{Word}
 use Rattle.supervision.specs.Lending.{over}
-use Rattle.supervision.specs.Telling.{word_at, words_from, offers_from, Tells}
+use Rattle.supervision.specs.Telling.{word_at, words_from, Tells, unopened}
 use Rattle.supervision.proofs.Writing.{push_at, ahead_at}
 
 word_at-same : (k : ℕ) (b : Bool) → word_at k b b ≡ []
@@ -62,23 +62,27 @@ tells_one obeys T x m p q l next =
     tells_more obeys (take m T) T T (set T m x) x m p p q whole n l refl (tells_same obeys T p) next
 
 -- one place more of a table whose open circuits are offered
-offers_append : (j : ℕ) (xs : List Circuit) (x : Circuit) → offers_from j (xs ++ x ∷ []) ≡ offers_from j xs ++ word_at (j + length xs) false (is_open x)
-offers_append j [] x = rw (add-zero j) (append-nil (word_at j false (is_open x)))
-offers_append j (y ∷ ys) x =
-    let e : suc j + length ys ≡ j + suc (length ys) = omega arith in
-    let head = word_at j false (is_open y) in
-    let rest = offers_from (suc j) ys in
-    let last = λ (k : ℕ). word_at k false (is_open x) in
-    ap (λ ws. head ++ ws) (offers_append (suc j) ys x) ∙ sym (append_assoc head rest (last (suc j + length ys))) ∙ ap (λ k. head ++ rest ++ last k) e
-
 pub offers_more : {P : Type 0} (obeys : Word → P → P → Type 0) (T : List Circuit) (m : ℕ) (p r q : P)
     → m < length T
-    → Follows obeys (offers_from 0 (take m T)) p r
+    → Tells obeys (unopened T) (over (take m T) (unopened T)) p r
     → Follows obeys (word_at m false (is_open (get_or T m vacant))) r q
-    → Follows obeys (offers_from 0 (take (m + 1) T)) p q
+    → Tells obeys (unopened T) (over (take (m + 1) T) (unopened T)) p q
 offers_more obeys T m p r q l told next =
+    let V = unopened T in
     let x = get_or T m vacant in
-    let k : 0 + length (take m T) ≡ m = zero-add (length (take m T)) ∙ length-take-le m T (omega arith) in
-    let words : offers_from 0 (take (m + 1) T) ≡ offers_from 0 (take m T) ++ word_at m false (is_open x) =
-    ap (offers_from 0) (take_more T m vacant l) ∙ offers_append 0 (take m T) x ∙ ap (λ n. offers_from 0 (take m T) ++ word_at n false (is_open x)) k in
-    rw words (follows_append obeys (offers_from 0 (take m T)) (word_at m false (is_open x)) p r q told next)
+    let n : length (take m T) ≡ m = length-take-le m T (omega arith) in
+    let inside : m < length V = rw length-map l in
+    let closed : get_or (over (take m T) V) m vacant ≡ vacant = ahead_at (take m T) V vacant m n (omega arith) ∙ get_or-map (λ _. vacant) T m vacant vacant l in
+    let grown : over (take (m + 1) T) V ≡ set (over (take m T) V) m x = ap (λ ys. over ys V) (take_more T m vacant l) ∙ sym (push_at (take m T) V x m n inside) in
+    rw grown (tells_more obeys (take m T) V (over (take m T) V) (set (over (take m T) V) m x) x m p r q refl n inside refl told (rw closed next))
+
+-- and all of them
+pub offers_all : {P : Type 0} (obeys : Word → P → P → Type 0) (T : List Circuit) (m : ℕ) (p q : P)
+    → length T ≤ m
+    → Tells obeys (unopened T) (over (take m T) (unopened T)) p q
+    → Tells obeys (unopened T) T p q
+offers_all obeys T m p q l told =
+    let all : take m T ≡ T = take_all m T l in
+    let none : drop (length T) (unopened T) ≡ [] = drop_all (length T) (unopened T) (rw length-map (omega arith)) in
+    let whole : over (take m T) (unopened T) ≡ T = rw (all, none) (append-nil T) in
+    rw whole at told

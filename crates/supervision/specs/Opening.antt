@@ -1,5 +1,5 @@
 -- Opening a trunk.
-use Rattle.std.specs.Prelude.{◌≡◌, ℕ, zero, ◌+◌, ◌*◌, ◌/◌, ◌%◌, ◌^◌, Bool, not, ◌&&◌, List, ◌++◌, map, length, Ok, Err, Result, ◌==◌, nat_le, nat_lt, slice_index}
+use Rattle.std.specs.Prelude.{◌≡◌, ℕ, ◌+◌, ◌*◌, ◌/◌, ◌%◌, ◌^◌, Bool, not, ◌&&◌, List, map, length, Ok, Err, Result, ◌==◌, nat_le, nat_lt, slice_index}
 use Rattle.std.specs.List.{list_all, range_with_len}
 use Rattle.status.specs.declared.circuit.Cic.{Cic}
 use Rattle.policy.specs.Sets.{Follows}
@@ -11,7 +11,7 @@ use Rattle.refusal.specs.declared.reasons.Refusal.TheVariants.{Opening, Places}
 use Rattle.supervision.specs.declared.trunk.Config.{Config}
 use Rattle.supervision.specs.declared.trunk.Trunk.{Trunk}
 use Rattle.supervision.specs.Laws.{placed, AllSound, SetIsOpen}
-use Rattle.supervision.specs.Telling.{withdrawals, offers_from}
+use Rattle.supervision.specs.Telling.{Tells, withdrawals, unopened}
 use Rattle.refusal.specs.Refusals.{unless}
 
 -- an equipment word has bit 0 clear and bits 1 and 31 set
@@ -60,7 +60,7 @@ abbrev pub OpenLaws : Result Config Refusal → List Circuit → List Bool → T
 OpenLaws (Err e) table held = Unit {0}
 OpenLaws (Ok t) table held = AllSound table × SetIsOpen table held × ((k : ℕ) → placed table k ≡ fresh (placed table k).equipped)
 
--- what opening tells the policy
+-- what opening tells the policy: every place is withdrawn, and then what opened is offered
 abbrev pub TellsOpen : {P : Type 0} → (Word → P → P → Type 0) → Result Config Refusal → ℕ → List ℕ → P → P → Type 0
-TellsOpen obeys (Err e) room ws p q = q ≡ p
-TellsOpen obeys (Ok t) room ws p q = Follows obeys (withdrawals room ++ offers_from zero (open_table ws)) p q
+TellsOpen {P} obeys (Err e) room ws p q = q ≡ p
+TellsOpen {P} obeys (Ok t) room ws p q = (m : P) × Follows obeys (withdrawals room) p m × Tells obeys (unopened (open_table ws)) (open_table ws) m q

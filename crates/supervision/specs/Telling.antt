@@ -1,7 +1,7 @@
 -- What an operation tells the policy: what opened is offered, what closed is withdrawn, by rising place.
 use Rattle.std.specs.Prelude.{ℕ, zero, suc, Bool, true, false, List, [], ◌∷◌, ◌++◌, map}
 use Rattle.std.specs.List.{range_with_len}
-use Rattle.circuit.specs.Circuits.{is_open}
+use Rattle.circuit.specs.Circuits.{is_open, vacant}
 use Rattle.circuit.specs.declared.record.Circuit.{Circuit}
 use Rattle.policy.specs.Sets.{Follows}
 use Rattle.policy.specs.declared.interface.Word.{Word}
@@ -24,11 +24,10 @@ words_from k (b ∷ bs) (c ∷ cs) = word_at k (is_open b) (is_open c) ++ words_
 abbrev pub Tells : {P : Type 0} → (Word → P → P → Type 0) → List Circuit → List Circuit → P → P → Type 0
 Tells obeys before after p q = Follows obeys (words_from zero before after) p q
 
--- opening: every place is withdrawn
+-- every place is withdrawn, by rising place
 abbrev pub withdrawals : ℕ → List Word
 withdrawals room = map (λ k. Withdraw (record { 0 = k })) (range_with_len 0 room)
 
--- and then the open circuits are offered, from the place k on
-abbrev pub offers_from : ℕ → List Circuit → List Word
-offers_from k [] = []
-offers_from k (c ∷ cs) = word_at k false (is_open c) ++ offers_from (suc k) cs
+-- as many places, of which none is open
+abbrev pub unopened : List Circuit → List Circuit
+unopened table = map (λ _. vacant) table

@@ -27,7 +27,7 @@ use told::Word;
 fn put<P: Policy>(place: Place, new: Circuit, circuit: &mut Circuit, policy: &mut P)
     ensures circuit { circuit.new ≡ new }
     ensures held { P.Policy.held policy.new ≡ settled_at (P.Policy.held policy.old) place.0 (is_open circuit.old) (is_open new) }
-    ensures told { Follows P.Policy.obeys (word_at place.0 (is_open circuit.old) (is_open new)) policy.old policy.new }
+    ensures policy { Follows P.Policy.obeys (word_at place.0 (is_open circuit.old) (is_open new)) policy.old policy.new }
 {
     let was = circuit.is_open();
     let is = new.is_open();
@@ -69,7 +69,7 @@ fn visit<P: Policy>(
     requires { 2 ≤ length words.old }
     ensures circuit { circuit.new ≡ (applied rule circuit.old).circuit }
     ensures held { P.Policy.held policy.new ≡ settled_at (P.Policy.held policy.old) place.0 (is_open circuit.old) (is_open (applied rule circuit.old).circuit) }
-    ensures told { Follows P.Policy.obeys (word_at place.0 (is_open circuit.old) (is_open (applied rule circuit.old).circuit)) policy.old policy.new }
+    ensures policy { Follows P.Policy.obeys (word_at place.0 (is_open circuit.old) (is_open (applied rule circuit.old).circuit)) policy.old policy.new }
     ensures words { words.new ≡ over (map number_of (told_of cic (applied rule circuit.old))) words.old }
     ensures count { result ≡ length (told_of cic (applied rule circuit.old)) }
 {
@@ -108,7 +108,7 @@ fn sweep<P: Policy>(
     requires table { length table.old ≤ places trunk.config }
     requires room { (slots.group.range.0 + 1) * 2 ≤ length words.old }
     ensures all { Stood trunk.config (where_named (named_by slots.entry) (λ _. applied rule)) table.old (P.Policy.held policy.old) words.old table.new (P.Policy.held policy.new) words.new result }
-    ensures told { Tells P.Policy.obeys table.old table.new policy.old policy.new }
+    ensures policy { Tells P.Policy.obeys table.old table.new policy.old policy.new }
     ensures few { result ≤ (slots.entry.group.range.0 + 1) * 2 }
 {
     let mut count = 0;
@@ -143,7 +143,7 @@ impl Trunk {
         requires equipped { (placed table.old place.0).equipped ≡ true }
         requires sendable { Sendable (meaning message) }
         ensures done { Performed self.config (ordered (λ k. nat_eq k place.0) rule (meaning message.entry)) result (lent table.old (P.Policy.held policy.old) words.old octets.old) (lent table.new (P.Policy.held policy.new) words.new octets.new) }
-        ensures told { Tells P.Policy.obeys table.old table.new policy.old policy.new }
+        ensures policy { Tells P.Policy.obeys table.old table.new policy.old policy.new }
     {
         let circuit = &mut table[place.0];
         let count = visit(self.cic_at(place), place, rule, circuit, policy, words);
@@ -167,7 +167,7 @@ impl Trunk {
         requires few { slots.group.range.0 < 32 }
         requires sendable { Sendable (meaning message) }
         ensures done { Performed self.config (ordered (named_by slots.entry) rule (meaning message.entry)) result (lent table.old (P.Policy.held policy.old) words.old octets.old) (lent table.new (P.Policy.held policy.new) words.new octets.new) }
-        ensures told { Tells P.Policy.obeys table.old table.new policy.old policy.new }
+        ensures policy { Tells P.Policy.obeys table.old table.new policy.old policy.new }
     {
         let count = sweep(self, slots, rule, table, policy, words);
         let length = send(message, &mut words[count..], octets);

@@ -1,7 +1,7 @@
 // Opening a trunk: its numbers are tested, its table is filled, and its policy is told.
 ghost use Rattle.std.specs.Prelude.{◌≡◌, ℕ, ◌+◌, ◌*◌, ◌%◌, ◌<◌, ◌≤◌, true, false, ◌&&◌, length, slice_index_or};
 ghost use Rattle.supervision.specs.Opening.{is_equipment, are_equipment, fits_trunk, opening, open_table, open_set, config_of, OpenedIf, OpenLaws, TellsOpen};
-ghost use Rattle.supervision.specs.Telling.{withdrawals, offers_from};
+ghost use Rattle.supervision.specs.Telling.{Tells, withdrawals, unopened};
 ghost use Rattle.policy.specs.Sets.{Follows};
 
 use crate::trunk::{Config, Trunk};
@@ -52,7 +52,7 @@ fn fill(equipment: &[u32], table: &mut [Circuit])
 // Withdraws every member; the number counted is the place itself.
 fn withdraw_all<P: Policy>(policy: &mut P)
     ensures none { (k : ℕ) → slice_index_or (P.Policy.held policy.new) k false ≡ false }
-    ensures told { Follows P.Policy.obeys (withdrawals P.Policy.PLACES) policy.old policy.new }
+    ensures policy { Follows P.Policy.obeys (withdrawals P.Policy.PLACES) policy.old policy.new }
 {
     for place in 0..P::PLACES {
         policy.withdraw(Place(place));
@@ -64,7 +64,7 @@ fn offer_open<P: Policy>(table: &[Circuit], policy: &mut P)
     requires none { (k : ℕ) → slice_index_or (P.Policy.held policy.old) k false ≡ false }
     requires places { length table.now ≤ P.Policy.PLACES }
     ensures set { P.Policy.held policy.new ≡ open_set P.Policy.PLACES table.now }
-    ensures told { Follows P.Policy.obeys (offers_from 0 table.now) policy.old policy.new }
+    ensures policy { Tells P.Policy.obeys (unopened table.now) table.now policy.old policy.new }
 {
     for (place, circuit) in table.iter().enumerate() {
         if circuit.is_open() {
@@ -84,7 +84,7 @@ impl Trunk {
     ) -> Result<Trunk, Refusal>
         ensures value { config_of result ≡ opening P.Policy.PLACES first equipment.now higher (length table.old) }
         ensures after { OpenedIf (config_of result) P.Policy.PLACES equipment.now table.old (P.Policy.held policy.old) table.new (P.Policy.held policy.new) }
-        ensures told { TellsOpen P.Policy.obeys (config_of result) P.Policy.PLACES equipment.now policy.old policy.new }
+        ensures policy { TellsOpen P.Policy.obeys (config_of result) P.Policy.PLACES equipment.now policy.old policy.new }
         ensures laws { OpenLaws (config_of result) table.new (P.Policy.held policy.new) }
     {
         if !fits_trunk(first, equipment, table.len()) {

@@ -34,7 +34,7 @@ impl Trunk {
         requires writable { cic.0 < 4096 → refusal_of (meaning message) ≡ None }
         requires short { length (encode (meaning message)) ≤ 320 }
         ensures outcome { Outcome self.config (λ before. singly self.config cic rule (meaning message.entry) before.table) result (lent table.old (P.Policy.held policy.old) words.old octets.old) (lent table.new (P.Policy.held policy.new) words.new octets.new) }
-        ensures told { Tells P.Policy.obeys table.old table.new policy.old policy.new }
+        ensures policy { Tells P.Policy.obeys table.old table.new policy.old policy.new }
     {
         let place = self.find(cic, rule, table)?;
         Ok(self.perform_at(place, rule, message, table, policy, words, octets))
@@ -52,7 +52,7 @@ impl Trunk {
         octets: &mut [u8],
     ) -> Result<(usize, usize), Refusal>
         ensures outcome { Outcome self.config (λ before. and_then (admitted self.config P.Policy.PLACES before) (λ _. singly self.config cic rule (single cic.0 kind) before.table)) result (lent table.old (P.Policy.held policy.old) words.old octets.old) (lent table.new (P.Policy.held policy.new) words.new octets.new) }
-        ensures told { Tells P.Policy.obeys table.old table.new policy.old policy.new }
+        ensures policy { Tells P.Policy.obeys table.old table.new policy.old policy.new }
     {
         self.admit(table, policy, words, octets)?;
         let message = Message::Single(cic, kind);
@@ -71,7 +71,7 @@ impl Trunk {
         octets: &mut [u8],
     ) -> Result<(usize, usize), Refusal>
         ensures outcome { Outcome self.config (releasing self.config P.Policy.PLACES cic location value) result (lent table.old (P.Policy.held policy.old) words.old octets.old) (lent table.new (P.Policy.held policy.new) words.new octets.new) }
-        ensures told { Tells P.Policy.obeys table.old table.new policy.old policy.new }
+        ensures policy { Tells P.Policy.obeys table.old table.new policy.old policy.new }
     {
         self.admit(table, policy, words, octets)?;
         let cause = cause_of(location, value)?;
@@ -91,7 +91,7 @@ impl Trunk {
         octets: &mut [u8],
     ) -> Result<(usize, usize), Refusal>
         ensures outcome { Outcome self.config (blocking self.config P.Policy.PLACES cic) result (lent table.old (P.Policy.held policy.old) words.old octets.old) (lent table.new (P.Policy.held policy.new) words.new octets.new) }
-        ensures told { Tells P.Policy.obeys table.old table.new policy.old policy.new }
+        ensures policy { Tells P.Policy.obeys table.old table.new policy.old policy.new }
     {
         let rule = Rule::Block(BlockType::Maintenance);
         self.order_single(cic, rule, Single::Blo, table, policy, words, octets)
@@ -107,7 +107,7 @@ impl Trunk {
         octets: &mut [u8],
     ) -> Result<(usize, usize), Refusal>
         ensures outcome { Outcome self.config (unblocking self.config P.Policy.PLACES cic) result (lent table.old (P.Policy.held policy.old) words.old octets.old) (lent table.new (P.Policy.held policy.new) words.new octets.new) }
-        ensures told { Tells P.Policy.obeys table.old table.new policy.old policy.new }
+        ensures policy { Tells P.Policy.obeys table.old table.new policy.old policy.new }
     {
         let rule = Rule::Unblock(BlockType::Maintenance);
         self.order_single(cic, rule, Single::Ubl, table, policy, words, octets)
@@ -123,7 +123,7 @@ impl Trunk {
         octets: &mut [u8],
     ) -> Result<(usize, usize), Refusal>
         ensures outcome { Outcome self.config (resetting self.config P.Policy.PLACES cic) result (lent table.old (P.Policy.held policy.old) words.old octets.old) (lent table.new (P.Policy.held policy.new) words.new octets.new) }
-        ensures told { Tells P.Policy.obeys table.old table.new policy.old policy.new }
+        ensures policy { Tells P.Policy.obeys table.old table.new policy.old policy.new }
     {
         let rule = Rule::Reset(Reset::Single);
         self.order_single(cic, rule, Single::Rsc, table, policy, words, octets)

@@ -75,7 +75,7 @@ loop-n-preserved g c =
             rw (w.circuits-is, w.policy-is)
                 (tells_more g.P.Policy.obeys out T (within L) (within (set L n w.visit-count.new.circuit)) (applied c.args.rule x).circuit k
                 c.args.policy.now c.loop-n.policy w.visit-count.new.policy
-                c.loop-n.invariant.0.0 len in-range table c.loop-n.invariant.2 (rw at w.visit-count.ensures.told)),
+                c.loop-n.invariant.0.0 len in-range table c.loop-n.invariant.2 (rw at w.visit-count.ensures.policy)),
           )
       | else-names w ↦
           let q : f k x ≡ quiet x =
@@ -107,5 +107,5 @@ returns-clause-all g c =
     c.loop-n.invariant.0 (omega arith)
     (λ j a x. unnamed named (λ _. applied c.args.rule) j x (covers_past first c.args.slots.group.range.0 c.args.slots.group.status.now j (omega arith)))
 
-pub returns-clause-told : goal.returns-clause-told
-returns-clause-told g c = c.loop-n.invariant.2
+pub returns-clause-policy : goal.returns-clause-policy
+returns-clause-policy g c = c.loop-n.invariant.2

@@ -1,14 +1,12 @@
-use Rattle.std.proofs.Common.{◌≡◌, ℕ, ◌+◌, ◌<◌, ◌≤◌, Bool, true, false, ◌&&◌, ltb, ◌≢◌, List, length, get_or, set, take, sym, ap, subst, inl, inr, get_or-set_other, get_or-set_same, refl, ◌∙◌, ⊎_elim, arith}
+use Rattle.std.proofs.Common.{◌≡◌, ℕ, ◌+◌, ◌<◌, ◌≤◌, Bool, true, false, ◌&&◌, ltb, ◌≢◌, List, length, get_or, set, sym, ap, inl, inr, get_or-set_other, get_or-set_same, refl, ◌∙◌, ⊎_elim, arith}
 use Rattle.std.proofs.lemmas.List.FromFn.{fill_by_all}
-use Rattle.std.proofs.lemmas.List.{get_or_past, take_all}
+use Rattle.std.proofs.lemmas.List.{get_or_past}
 use Rattle.std.proofs.lemmas.Bool.{cases_lt, lt-ltb, le-ltb}
 use Rattle.circuit.specs.Circuits.{is_open, vacant}
 use Rattle.supervision.specs.Laws.{placed}
+use Rattle.supervision.specs.Telling.{unopened}
 use Rattle.std.proofs.lemmas.Bool.Decides.{nat_tests, eqb_tells}
-use Rattle.circuit.specs.declared.record.Circuit.{Circuit}
-use Rattle.policy.specs.Sets.{Follows}
-use Rattle.supervision.specs.Telling.{offers_from}
-use Rattle.supervision.proofs.Turning.{offers_more}
+use Rattle.supervision.proofs.Turning.{tells_same, offers_more, offers_all}
 use Rattle.supervision.proofs.opening.offer_open.Goals as goal
 use Rattle.supervision.proofs.opening.offer_open.Goals.{then-is_open, else-is_open}
 
@@ -64,7 +62,8 @@ loop-place-preserved g c =
       )
     ]
 
-pub returns-clause-told : goal.returns-clause-told
-returns-clause-told g c =
-    let e : take c.loop-place.place c.args.table.now ≡ c.args.table.now = take_all _ _ c.loop-place-test.false in
-    subst (λ (cs : List Circuit). Follows g.P.Policy.obeys (offers_from 0 cs) c.args.policy.now c.loop-place.policy) e c.loop-place.invariant.1
+pub returns-clause-policy : goal.returns-clause-policy
+returns-clause-policy g c = offers_all g.P.Policy.obeys c.args.table.now c.loop-place.place c.args.policy.now c.loop-place.policy c.loop-place-test.false c.loop-place.invariant.1
+
+pub loop-place-init : goal.loop-place-init
+loop-place-init g c = (λ k. let past : ltb k 0 ≡ false = le-ltb k 0 (omega arith) in rw past (c.requires.none k), tells_same g.P.Policy.obeys (unopened c.args.table.now) c.args.policy.now)

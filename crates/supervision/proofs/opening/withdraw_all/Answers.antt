@@ -17,7 +17,7 @@ loop-place-preserved g c =
           c.loop-place.invariant.1 (c.withdraw.new.self, c.withdraw.ensures.obeys, refl)),
     )
 
-pub returns-clause-told : goal.returns-clause-told
-returns-clause-told g c =
+pub returns-clause-policy : goal.returns-clause-policy
+returns-clause-policy g c =
     let e : c.loop-place.place ≡ g.P.Policy.PLACES = omega (arith, c.PLACES-place-end.ensures) in
     subst (λ n. Follows g.P.Policy.obeys (withdrawals n) c.args.policy.now c.loop-place.policy) e c.loop-place.invariant.1

@@ -35,7 +35,7 @@ returns g c =
     let done = subst (λ (m : Move). Performed t m c.perform.result before after) all (rw (c.cic_at.ensures, c.slots_of-slots.ensures.first, c.slots_of-slots.ensures.range, status) at c.perform.ensures.done) in
     let a : clearing t system ≡ Ok move = rw far refl in
     record {
-      told = c.perform.ensures.told;
+      policy = c.perform.ensures.policy;
       outcome = outcome_of t (λ (_ : Lent). clearing t system) move c.perform.result before after
           (rw (g.met.P.Policy.sized c.args.policy.now) c.requires.enough.places) (λ k n e. order_keeps rule (placed T k) refl) a done;
       alike = rw a (λ k n l e. let w = resets_alike t system msg T k n l e in (ap (λ (y : Lent). placed y.table k) done.carries ∙ w.0, w.1));

@@ -2,8 +2,6 @@ use Rattle.std.proofs.Common.{◌≡◌, ◌*◌, ◌≤◌, length, ap, ◌∙�
 use Rattle.std.proofs.lemmas.List.FromFn.{length-map-range_with_len}
 use Rattle.circuit.specs.Circuits.{fresh}
 use Rattle.supervision.specs.Opening.{open_table, open_set, equipped_at}
-use Rattle.policy.proofs.Words.{follows_append}
-use Rattle.supervision.specs.Telling.{withdrawals, offers_from}
 use Rattle.supervision.proofs.Fresh.{open_sound, open_fresh, open_set_lem}
 use Rattle.supervision.proofs.trunk.Trunk.open.Goals as goal
 
@@ -16,9 +14,7 @@ returns-clause-laws g c =
     let held = c.offer_open.ensures.set ∙ ap (open_set room) c.fill.ensures in
     rw (held, c.fill.ensures) (open_sound ws, open_set_lem room (open_table ws) (omega (arith, c.fits_trunk.ensures.fits c.if-not-fits_trunk.false)), open_fresh ws)
 
-pub returns-clause-told : goal.returns-clause-told
-returns-clause-told g c =
-    let room = g.P.Policy.PLACES in
-    let offers = offers_from 0 (open_table c.args.equipment.now) in
-    follows_append g.P.Policy.obeys (withdrawals room) offers c.args.policy.now c.withdraw_all.new.policy c.offer_open.new.policy
-    c.withdraw_all.ensures.told (rw (← c.fill.ensures) c.offer_open.ensures.told)
+pub returns-clause-policy : goal.returns-clause-policy
+returns-clause-policy g c =
+    let told = c.offer_open.ensures.policy in
+    (c.withdraw_all.new.policy, c.withdraw_all.ensures.policy, rw (c.fill.ensures) at told)

@@ -28,7 +28,7 @@ returns-in_err-judge g c =
       outcome = outcome_refused t (λ (b : Lent). groupwise t c.args.system c.args.mask c.args.rule msg b.table) p.0 c.from_residual.result
           (lent T (g.P.Policy.held c.args.policy.now) c.args.words.now c.args.octets.now) a p.1;
       group = rw a refl;
-      told = tells_same g.P.Policy.obeys T c.args.policy.now;
+      policy = tells_same g.P.Policy.obeys T c.args.policy.now;
     }
 
 pub returns : goal.returns
@@ -53,6 +53,6 @@ returns g c =
     (subst (λ (x : Msg). Performed t (ordered named c.args.rule x) c.perform.result before after) sent (rw (c.cic_at-cic.ensures, c.slots_of-slots.ensures.first, c.slots_of-slots.ensures.range, c.slots_of-slots.ensures.status) at c.perform.ensures.done)) in
     record {
       outcome = outcome;
-      told = c.perform.ensures.told;
+      policy = c.perform.ensures.policy;
       group = group_order t c.args.system c.args.mask c.args.rule msg before after (Ok c.perform.result) outcome.done;
     }

@@ -40,8 +40,8 @@ returns-clause-done g c =
       within = rw c.send-length.ensures.count (omega (arith, count), omega (arith, c.requires.sendable.short));
     }
 
-pub returns-clause-told : goal.returns-clause-told
-returns-clause-told g c =
+pub returns-clause-policy : goal.returns-clause-policy
+returns-clause-policy g c =
     let T = c.args.table.now in
     let p = c.args.place.0 in
-    rw c.visit-count.ensures.circuit (tells_one g.P.Policy.obeys T (applied c.args.rule (get_or T p vacant)).circuit p c.args.policy.now c.visit-count.new.policy c.requires.inside c.visit-count.ensures.told)
+    rw c.visit-count.ensures.circuit (tells_one g.P.Policy.obeys T (applied c.args.rule (get_or T p vacant)).circuit p c.args.policy.now c.visit-count.new.policy c.requires.inside c.visit-count.ensures.policy)

@@ -35,7 +35,7 @@ returns g c =
     let may = may_seize t g.P.Policy.PLACES body before c.in_ok-admit.ensures.value size in
     let v = c.in_ok-place.ensures.value in
     rw may
-    (seizure_accepted g.P.Policy.picks g.P.Policy.obeys t body v.0 c.in_ok-place.place c.perform_at.result before after c.args.policy.now c.pick.new.policy c.perform_at.new.policy v.1 v.2 c.perform_at.ensures.told v.3
+    (seizure_accepted g.P.Policy.picks g.P.Policy.obeys t body v.0 c.in_ok-place.place c.perform_at.result before after c.args.policy.now c.pick.new.policy c.perform_at.new.policy v.1 v.2 c.perform_at.ensures.policy v.3
     (rw (g.met.P.Policy.sized c.args.policy.now) c.in_ok-admit.ensures.enough.places)
     c.in_ok-place.ensures.found.1
     (rw (c.in_ok-place.ensures.same, c.cic_at-cic.ensures) at c.perform_at.ensures.done))
