@@ -1,6 +1,6 @@
 -- A policy of either method: its set, what a word makes of it, and what it chooses.
 use Rattle.std.specs.Prelude.{◌≡◌, Bool, List, length, Option}
-use Rattle.policy.specs.Keeping.{marks-length}
+use Rattle.policy.specs.Fields.{marks-length}
 use Rattle.policy.specs.Marks.{MarksWord, TakesNearest}
 use Rattle.policy.specs.Orders.{marks}
 use Rattle.policy.specs.Turns.{Reorders, TakesPreferred}

@@ -1,2 +1,6 @@
-pub mod Words
 pub mod Fields
+pub mod Keeping
+pub mod Members
+pub mod Ordering
+pub mod Runs
+pub mod Words

@@ -1,6 +1,8 @@
--- One field of one link is written.
-use Rattle.std.specs.Prelude.{◌≡◌, ℕ, zero, suc, false, List, [], ◌∷◌, map, length, take, slice_index_or, slice_set, refl}
-use Rattle.std.proofs.Common.{ap}
+-- A link that is free, and how many marks links have.
+use Rattle.std.specs.Prelude.{◌≡◌, suc, false, List, [], ◌∷◌, map, length, refl}
+use Rattle.std.proofs.Common.{ap, arith}
+use Rattle.std.proofs.lemmas.List.{length-take-le}
+use Rattle.policy.specs.Orders.{marks}
 use Rattle.policy.specs.declared.links.Link.{Link}
 
 abbrev pub blank : Link
@@ -10,26 +12,5 @@ pub field_length : {X : Type 0} (f : Link → X) (ls : List Link) → length (ma
 field_length f [] = refl
 field_length f (l ∷ ls) = ap suc (field_length f ls)
 
-pub field_at : {X : Type 0} (f : Link → X) (ls : List Link) (i : ℕ) (d : Link) → slice_index_or (map f ls) i (f d) ≡ f (slice_index_or ls i d)
-field_at f [] i d = refl
-field_at f (l ∷ ls) zero d = refl
-field_at f (l ∷ ls) (suc i) d = field_at f ls i d
-
--- a field that is written
-pub field_set : {X : Type 0} (f : Link → X) (ls : List Link) (i : ℕ) (l : Link) → map f (slice_set ls i l) ≡ slice_set (map f ls) i (f l)
-field_set f [] i l = refl
-field_set f (m ∷ ls) zero l = refl
-field_set f (m ∷ ls) (suc i) l = ap (λ t. f m ∷ t) (field_set f ls i l)
-
--- a field that stays
-pub field_kept : {X : Type 0} (f : Link → X) (ls : List Link) (i : ℕ) (l d : Link) → f l ≡ f (slice_index_or ls i d) → map f (slice_set ls i l) ≡ map f ls
-field_kept f [] i l d e = refl
-field_kept f (m ∷ ls) zero l d e = ap (λ t. t ∷ map f ls) e
-field_kept f (m ∷ ls) (suc i) l d e = ap (λ t. f m ∷ t) (field_kept f ls i l d e)
-
--- one of the first places
-pub take-set : {X : Type 0} (n : ℕ) (xs : List X) (i : ℕ) (x : X) → take n (slice_set xs i x) ≡ slice_set (take n xs) i x
-take-set zero xs i x = refl
-take-set (suc n) [] i x = refl
-take-set (suc n) (y ∷ xs) zero x = refl
-take-set (suc n) (y ∷ xs) (suc i) x = ap (λ t. y ∷ t) (take-set n xs i x)
+pub marks-length : (ls : List Link) → length ls ≡ 514 → length (marks ls) ≡ 512
+marks-length ls l = let n = field_length (λ (k : Link). k.linked) ls in length-take-le 512 _ (omega arith)

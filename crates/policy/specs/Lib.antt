@@ -1,10 +1,6 @@
 pub mod Ends
+pub mod Fields
+pub mod Marks
 pub mod Orders
 pub mod Sets
-pub mod Keeping
-pub mod Fields
-pub mod Runs
-pub mod Members
-pub mod Ordering
-pub mod Marks
 pub mod Turns

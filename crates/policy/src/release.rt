@@ -2,7 +2,7 @@
 ghost use Rattle.std.specs.Prelude.{◌≡◌, ℕ, true, false, List, [], replicate, slice_set};
 ghost use Rattle.policy.specs.Orders.{InOrder, Ordered, marks, offered, withdrawn, preferred};
 ghost use Rattle.policy.specs.Sets.{Chosen};
-ghost use Rattle.policy.specs.Keeping.{marks-length};
+ghost use Rattle.policy.specs.Fields.{marks-length};
 
 use crate::interface::{Place, Policy, Word};
 use crate::links::Links;

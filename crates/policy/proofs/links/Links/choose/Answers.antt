@@ -1,8 +1,9 @@
 use Rattle.std.proofs.Common.{◌≡◌, ◌<◌, ◌≤◌, sym, ap, ◌∙◌, ⊎_elim, slice_index, arith}
 use Rattle.std.proofs.lemmas.Bool.{cases_lt}
 use Rattle.std.proofs.lemmas.Bool.Decides.{nat_tests}
-use Rattle.policy.specs.Fields.{blank, field_at}
-use Rattle.policy.specs.Keeping.{chosen_first, chosen_last, chosen_none}
+use Rattle.policy.specs.Fields.{blank}
+use Rattle.policy.proofs.Fields.{field_at}
+use Rattle.policy.proofs.Keeping.{chosen_first, chosen_last, chosen_none}
 use Rattle.policy.specs.Orders.{newers, olders}
 use Rattle.policy.specs.declared.links.Link.{Link}
 use Rattle.policy.proofs.links.Links.choose.Goals as goal

@@ -1,8 +1,9 @@
 use Rattle.std.proofs.Common.{false, sym, ◌∙◌, arith}
 use Rattle.std.proofs.lemmas.List.{get_or_past, get_or-take}
 use Rattle.std.proofs.lemmas.Bool.Decides.{nat_tests}
-use Rattle.policy.specs.Fields.{blank, field_at}
-use Rattle.policy.specs.Keeping.{marks-length}
+use Rattle.policy.specs.Fields.{blank}
+use Rattle.policy.proofs.Fields.{field_at}
+use Rattle.policy.specs.Fields.{marks-length}
 use Rattle.policy.specs.Orders.{marks}
 use Rattle.policy.specs.declared.links.Link.{Link}
 use Rattle.policy.proofs.links.Links.is_linked.Goals as goal

@@ -1,5 +1,5 @@
 use Rattle.std.proofs.Common.{Bool, List, take, ap, ◌∙◌}
-use Rattle.policy.specs.Fields.{take-set}
+use Rattle.policy.proofs.Fields.{take-set}
 use Rattle.policy.specs.declared.links.Link.{Link}
 use Rattle.policy.proofs.Fields.{field_written, field_unwritten}
 use Rattle.policy.proofs.links.Links.mark.Goals as goal

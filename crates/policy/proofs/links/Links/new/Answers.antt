@@ -1,5 +1,5 @@
 use Rattle.std.proofs.Common.{refl}
-use Rattle.policy.specs.Ordering.{none_marked}
+use Rattle.policy.proofs.Ordering.{none_marked}
 use Rattle.policy.proofs.links.Links.new.Goals as goal
 
 pub returns-clause-order : goal.returns-clause-order

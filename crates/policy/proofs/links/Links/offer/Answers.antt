@@ -1,6 +1,7 @@
 use Rattle.std.proofs.Common.{◌≡◌, true, get_or, set, sym, ◌∙◌, arith}
 use Rattle.std.proofs.lemmas.List.{set_past}
-use Rattle.policy.specs.Keeping.{marks-length, end_first, offer_new, offer_past}
+use Rattle.policy.specs.Fields.{marks-length}
+use Rattle.policy.proofs.Keeping.{end_first, offer_new, offer_past}
 use Rattle.policy.specs.Orders.{marks, newers, olders}
 use Rattle.policy.proofs.links.Links.offer.Goals as goal
 

@@ -1,4 +1,5 @@
-use Rattle.policy.specs.Fields.{blank, field_at}
+use Rattle.policy.specs.Fields.{blank}
+use Rattle.policy.proofs.Fields.{field_at}
 use Rattle.policy.specs.declared.links.Link.{Link}
 use Rattle.policy.proofs.links.Links.remove.Goals as goal
 

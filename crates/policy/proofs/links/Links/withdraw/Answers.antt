@@ -1,5 +1,5 @@
 use Rattle.std.proofs.Common.{sym}
-use Rattle.policy.specs.Keeping.{same_mark, withdraw_member, withdraw_other}
+use Rattle.policy.proofs.Keeping.{same_mark, withdraw_member, withdraw_other}
 use Rattle.policy.specs.Orders.{marks}
 use Rattle.policy.proofs.links.Links.withdraw.Goals as goal
 

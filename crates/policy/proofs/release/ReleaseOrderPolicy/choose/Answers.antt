@@ -1,5 +1,5 @@
 use Rattle.std.proofs.Common.{refl}
-use Rattle.policy.specs.Keeping.{member_of}
+use Rattle.policy.proofs.Keeping.{member_of}
 use Rattle.policy.proofs.release.ReleaseOrderPolicy.choose.Goals as goal
 
 pub returns : goal.returns

@@ -4,20 +4,17 @@ use Rattle.std.proofs.Common.{sym, ◌∙◌, ap, true≢false, inl, inr, arith}
 use Rattle.std.proofs.lemmas.Bool.{false≢true}
 use Rattle.std.proofs.Math.Logic.{∥∥₁_elim}
 use base.Stored.{Coded-set, coded_bool}
-use Rattle.std.proofs.lemmas.List.{length-take-le, set-get_or, set_comm}
+use Rattle.std.proofs.lemmas.List.{set-get_or, set_comm}
 use Rattle.std.proofs.lemmas.Bool.Decides.{nat_tests}
-use Rattle.policy.specs.Fields.{field_length}
+use Rattle.policy.specs.Fields.{field_length, marks-length}
 use Rattle.std.specs.Option.{unwrap_or}
-use Rattle.policy.specs.Runs.{last_in}
-use Rattle.policy.specs.Members.{in_head, in_tail, in_kept, kept_in, without_absent}
-use Rattle.policy.specs.Ordering.{Marked, Lines, small, lines_push, lines_without}
+use Rattle.policy.proofs.Runs.{last_in}
+use Rattle.policy.proofs.Members.{in_head, in_tail, in_kept, kept_in, without_absent}
+use Rattle.policy.proofs.Ordering.{Marked, Lines, small, lines_push, lines_without}
 use Rattle.policy.specs.Orders.{has, Run, Ordered, InOrder, newers, olders, marks, end_for, offered, withdrawn, controlled, uncontrolled, preferred, first_of, last_of}
 use Rattle.policy.specs.Sets.{Chosen}
 use Rattle.policy.specs.declared.interface.Place.{Place}
 use Rattle.policy.specs.declared.links.Link.{Link}
-
-pub marks-length : (ls : List Link) → length ls ≡ 514 → length (marks ls) ≡ 512
-marks-length ls l = let n = field_length (λ (k : Link). k.linked) ls in length-take-le 512 _ (omega arith)
 
 to_lines : (e : Bool) (ls : List Link) (zs : List ℕ) → length ls ≡ 514 → Ordered e ls zs → Lines e (marks ls) (newers ls) (olders ls) zs
 to_lines e ls zs l (m, o, a, b) = ((marks-length ls l, m, o), a, b)

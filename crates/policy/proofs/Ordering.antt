@@ -4,8 +4,8 @@ use Rattle.std.proofs.Common.{sym, ◌∙◌, subst, inl, inr, arith, length-set
 use Rattle.std.proofs.lemmas.List.{get_or_past, get_or-replicate, length-replicate}
 use Rattle.std.proofs.lemmas.Bool.{cases_lt, false≢true}
 use Rattle.std.proofs.lemmas.Bool.Decides.{nat_tests, eqb_tells}
-use Rattle.policy.specs.Members.{out_head, out_cons, in_cases, in_head, in_tail, has_push, once_push, kept_in, in_kept, out_kept, not_kept, once_kept, kept_push, kept_kept, without_absent, has_without}
-use Rattle.policy.specs.Runs.{run_newer, run_older, run_push, run_without, last_in, before_in, after_in}
+use Rattle.policy.proofs.Members.{out_head, out_cons, in_cases, in_head, in_tail, has_push, once_push, kept_in, in_kept, out_kept, not_kept, once_kept, kept_push, kept_kept, without_absent, has_without}
+use Rattle.policy.proofs.Runs.{run_newer, run_older, run_push, run_without, last_in, before_in, after_in}
 use Rattle.policy.specs.Orders.{has, Once, Run, withdrawn, controlled, uncontrolled, end_for}
 
 -- a mark that is written at p, read at k

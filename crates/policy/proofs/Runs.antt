@@ -2,7 +2,7 @@
 use Rattle.std.specs.Prelude.{◌≡◌, ℕ, ◌<◌, true, false, ◌≢◌, ◌⊎◌, List, [], ◌∷◌, ◌++◌, length, slice_index, slice_index_or, slice_set}
 use Rattle.std.proofs.Common.{sym, ◌∙◌, ap, subst, true≢false, inl, inr, arith, length-set, get_or-set_same, get_or-set_other}
 use Rattle.std.proofs.lemmas.Bool.{false≢true}
-use Rattle.policy.specs.Members.{out_head, in_head, in_tail, in_cases, without_head, without_other}
+use Rattle.policy.proofs.Members.{out_head, in_head, in_tail, in_cases, without_head, without_other}
 use Rattle.policy.specs.Orders.{has, Once, Run, withdrawn}
 
 -- a run does not look at other places
