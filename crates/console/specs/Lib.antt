@@ -1,2 +1,2 @@
-pub mod Desks
 pub mod Selections
+pub mod Opened

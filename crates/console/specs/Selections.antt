@@ -6,6 +6,8 @@ use Rattle.policy.specs.Orders.{marks}
 use Rattle.policy.specs.Turns.{Reorders, TakesPreferred}
 use Rattle.policy.specs.declared.interface.Place.{Place}
 use Rattle.policy.specs.declared.interface.Word.{Word}
+use Rattle.console.specs.declared.order.Method.{Method}
+use Rattle.console.specs.declared.order.Method.TheVariants as method
 use Rattle.console.specs.declared.selection.Selection.{Selection}
 use Rattle.console.specs.declared.selection.Selection.TheVariants.{OneEnd, ReleaseOrder}
 
@@ -29,3 +31,10 @@ picks_by o (OneEnd p) (OneEnd q) = TakesNearest o p q
 picks_by o (OneEnd p) (ReleaseOrder q) = ⊥
 picks_by o (ReleaseOrder p) (OneEnd q) = ⊥
 picks_by o (ReleaseOrder p) (ReleaseOrder q) = TakesPreferred o p q
+
+-- a new one: of the method asked for, and with the higher point code the even places are controlled
+abbrev pub made_by : Method → Bool → Selection → Type 0
+made_by (method.OneEnd e) higher (OneEnd p) = p.end ≡ e
+made_by (method.OneEnd e) higher (ReleaseOrder p) = ⊥
+made_by method.ReleaseOrder higher (OneEnd p) = ⊥
+made_by method.ReleaseOrder higher (ReleaseOrder p) = p.even ≡ higher

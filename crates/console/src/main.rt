@@ -1,7 +1,7 @@
 // A console for a trunk: orders on standard input, one to a line, and on standard output what each did.
 #![tactic(auto)]
 
-mod desk;
+mod console;
 mod numerals;
 mod order;
 mod selection;
@@ -9,7 +9,7 @@ mod wording;
 
 ghost use Rattle.std.specs.Prelude.{◌≡◌, ℕ, ◌<◌, length, MatchBool, ◌==◌, ◌≢◌, slice_index};
 
-use desk::Desk;
+use console::Console;
 use explain::without_end;
 use order::read_order;
 use std::alloc::Global;
@@ -35,7 +35,7 @@ fn is_remark(text: &[u8]) -> bool
 fn answer_line<W: Write>(
     heap: Global,
     line: &[u8],
-    desk: &mut Desk,
+    console: &mut Console,
     out: &mut W,
 ) -> io::Result<()> {
     let text = without_end(line);
@@ -46,13 +46,13 @@ fn answer_line<W: Write>(
     out.write_all(text)?;
     out.write_all(b"\n")?;
     let answer = match read_order(heap, text)? {
-        Some(order) => desk.answer(heap, order)?,
+        Some(order) => console.answer(heap, order)?,
         None => Answer::NotUnderstood,
     };
     let report = Report {
         answer,
-        words: &desk.words,
-        octets: &desk.octets,
+        words: &console.words,
+        octets: &console.octets,
     };
     write!(out, "{report}")
 }
@@ -61,7 +61,7 @@ fn run(rt: &HostRuntime) -> io::Result<()> {
     let mut input = BufReader::new(rt.alloc(), rt.stdin())?;
     let mut out = BufWriter::new(rt.alloc(), rt.stdout())?;
     let mut line = Vec::new(rt.alloc());
-    let mut desk = Desk::new(rt.alloc());
+    let mut console = Console::new(rt.alloc());
     // A count, since each loop is proved to end. `split` would not tell whether the last line had its line feed. What
     // three programs have alike here are two calls of the library.
     for _ in 0..u64::MAX {
@@ -69,7 +69,7 @@ fn run(rt: &HostRuntime) -> io::Result<()> {
         if input.read_until(b'\n', &mut line)? == 0 {
             break;
         }
-        answer_line(rt.alloc(), line.as_slice(), &mut desk, &mut out)?;
+        answer_line(rt.alloc(), line.as_slice(), &mut console, &mut out)?;
     }
     out.flush()
 }

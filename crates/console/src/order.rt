@@ -4,9 +4,6 @@ use policy::End;
 use status::Cic;
 use std::alloc::{AllocError, Global};
 
-// The most equipment words of an order, which are more than a trunk takes.
-const MOST_WORDS: usize = 64;
-
 // Which open circuit the next call takes.
 #[derive(Clone, Copy)]
 pub enum Method {
@@ -115,9 +112,6 @@ fn read_opening(
     ) else {
         return Ok(None);
     };
-    if words.len() > MOST_WORDS {
-        return Ok(None);
-    }
     Ok(read_all(heap, words, hex_word)?.map(|equipment| Order::Open(Opening {
         first,
         higher,

@@ -1,5 +1,6 @@
 // A policy of either method. An enum and no `dyn`, since a policy states its number of places as a constant.
-ghost use Rattle.console.specs.Selections.{held_by, held_by-length, obeys_by, picks_by};
+ghost use Rattle.console.specs.Selections.{held_by, held_by-length, obeys_by, picks_by, made_by};
+ghost use Rattle.std.specs.Prelude.{◌≡◌, false, replicate};
 
 use crate::order::Method;
 use policy::{Place, Policy, ReleaseOrder, Sequential};
@@ -12,7 +13,10 @@ pub(crate) enum Selection {
 
 impl Selection {
     // A policy that holds nothing. With the higher point code the even places are controlled.
-    pub(crate) fn new(method: Method, higher: bool) -> Selection {
+    pub(crate) fn new(method: Method, higher: bool) -> Selection
+        ensures made { made_by method higher result }
+        ensures none { held_by result ≡ replicate 512 false }
+    {
         match method {
             Method::OneEnd(end) => Selection::OneEnd(Sequential::new(end)),
             Method::ReleaseOrder => Selection::ReleaseOrder(ReleaseOrder::new(higher)),

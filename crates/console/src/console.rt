@@ -1,6 +1,6 @@
-// The desk: the open trunk, its table and its policy, and the outputs of its operations.
+// What the console holds: the open trunk, its table and its policy, and the outputs of its operations.
 ghost use Rattle.std.specs.Prelude.{IfOk};
-ghost use Rattle.console.specs.Desks.{Stays};
+ghost use Rattle.console.specs.Opened.{Opened};
 
 use crate::order::{Opening, Operation, Order, Slots};
 use crate::selection::Selection;
@@ -22,7 +22,7 @@ struct OpenTrunk {
 }
 
 #[derive(Drop)]
-pub struct Desk {
+pub struct Console {
     open: Option<OpenTrunk>,
     // the circuits of the open trunk, 32 for each PCM system
     table: Vec<Circuit>,
@@ -77,9 +77,9 @@ impl OpenTrunk {
     }
 }
 
-impl Desk {
-    pub(crate) fn new(heap: Global) -> Desk {
-        Desk {
+impl Console {
+    pub(crate) fn new(heap: Global) -> Console {
+        Console {
             open: None,
             table: Vec::new(heap),
             words: [0; 96],
@@ -97,7 +97,7 @@ impl Desk {
 
     // Opens a trunk in place of the one before, which stays if the new one is refused.
     fn open(&mut self, heap: Global, opening: &Opening) -> Result<Answer, AllocError>
-        ensures { IfOk result (λ answer. Stays answer self.old self.new) }
+        ensures { IfOk result (λ answer. Opened answer self.old self.new) }
     {
         let systems = opening.equipment.len().min(MOST_SYSTEMS);
         let mut table = vec![in heap; Circuit::fresh(false); systems * 32]?;
