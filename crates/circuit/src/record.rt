@@ -18,7 +18,6 @@ pub enum Call {
 }
 
 // A block that we ask the far exchange to keep.
-// None is one of the states between which the rules move, so it is no Option.
 #[derive(Clone, Copy, PartialEq, Eq, Default, Debug)]
 pub enum LocalBlock {
     #[default]
@@ -32,7 +31,6 @@ pub enum LocalBlock {
 }
 
 // A reset of ours that waits for its answer.
-// None is a state of the record as the others are: the rules of messages go back to it. So it is no Option.
 #[derive(Clone, Copy, PartialEq, Eq, Default, Debug)]
 pub enum Reset {
     #[default]

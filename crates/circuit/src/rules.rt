@@ -18,7 +18,6 @@ pub struct Change {
 }
 
 // What an order does to each circuit that it names.
-// An enum and no closure: the definitions match on this closed list, and each case keeps the laws.
 #[derive(Clone, Copy)]
 pub enum Rule {
     Seize,

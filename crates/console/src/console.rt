@@ -9,10 +9,8 @@ use circuit::Circuit;
 use refusal::Refusal;
 use status::Cic;
 use std::alloc::{AllocError, Global};
-use supervision::Trunk;
+use supervision::{MOST_SYSTEMS, OCTETS, SLOTS, Trunk, WORDS};
 
-// A trunk has no more PCM systems. Of more the table has no records, and the trunk refuses them.
-const MOST_SYSTEMS: usize = 16;
 
 // An open trunk with its policy.
 #[derive(Clone, Copy)]
@@ -24,11 +22,11 @@ struct OpenTrunk {
 #[derive(Drop)]
 pub struct Console {
     open: Option<OpenTrunk>,
-    // the circuits of the open trunk, 32 for each PCM system
+    // the circuits of the open trunk
     table: Vec<Circuit>,
     // as the last operation left them
-    pub words: [u32; 96],
-    pub octets: [u8; 320],
+    pub words: [u32; WORDS],
+    pub octets: [u8; OCTETS],
 }
 
 impl OpenTrunk {
@@ -82,8 +80,8 @@ impl Console {
         Console {
             open: None,
             table: Vec::new(heap),
-            words: [0; 96],
-            octets: [0; 320],
+            words: [0; WORDS],
+            octets: [0; OCTETS],
         }
     }
 
@@ -100,7 +98,7 @@ impl Console {
         ensures { IfOk result (λ answer. Opened answer self.old self.new) }
     {
         let systems = opening.equipment.len().min(MOST_SYSTEMS);
-        let mut table = vec![in heap; Circuit::fresh(false); systems * 32]?;
+        let mut table = vec![in heap; Circuit::fresh(false); systems * SLOTS]?;
         match OpenTrunk::new(opening, table.as_mut_slice()) {
             Ok(open) => {
                 self.open = Some(open);

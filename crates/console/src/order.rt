@@ -33,7 +33,7 @@ pub struct Slots {
     pub mask: u32,
 }
 
-// What an open trunk is told to do. An enum and no closure, since an order is read whole before anything is done.
+// What an open trunk is told to do.
 #[derive(Drop)]
 pub enum Operation {
     // with the body of the IAM
@@ -120,7 +120,7 @@ fn read_opening(
     })))
 }
 
-// An Option, as of every part of an order: nobody would read the error of a `TryFrom`. So with the method.
+// Whether our point code is the higher one.
 fn read_side(side: &[u8]) -> Option<bool> {
     match side {
         b"higher" => Some(true),

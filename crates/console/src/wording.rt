@@ -154,7 +154,6 @@ impl fmt::Display for Standing {
     }
 }
 
-// A `bool` is printed otherwise, and is no type of ours.
 fn yes_no(blocked: bool) -> &'static str {
     if blocked { "yes" } else { "no" }
 }

@@ -7,7 +7,7 @@ ghost use Rattle.message.specs.Msg.{cic_in, kind_in};
 use crate::kinds::{BlockType, CallKind, Grouped, Kind, Single};
 use status::{Cic, Group, Range};
 
-// Each case has the CIC, and no struct beside the enum: the cases hold the parts of the octets, as the rules ask.
+// A message: each case has the CIC, and holds parts of the octets.
 #[derive(Clone, Copy)]
 pub enum Message<'a> {
     // RSC, BLO, UBL, BLA, UBA

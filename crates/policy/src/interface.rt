@@ -51,7 +51,7 @@ pub trait Policy {
     ghost sized: { (x : Self) → length (held x) ≡ PLACES };
 }
 
-// A word to a policy. An enum and no closure, since words are kept and replayed, and the last one on a place is asked for.
+// A word to a policy.
 #[derive(Clone, Copy)]
 pub enum Word {
     Offer(Place),

@@ -9,7 +9,7 @@ use std::fmt;
 // The first that holds is answered; nothing is changed then.
 #[derive(Clone, Copy, PartialEq, Eq, Debug)]
 pub enum Refusal {
-    // opening: the first CIC, the number of systems, an equipment word or the table's length is wrong
+    // opening: the first CIC, the number of systems, an equipment word or the table's length is wrong, or CICs pass 4,095
     Opening,
     // the policy states fewer places than the table has
     Places,
@@ -35,7 +35,6 @@ pub enum Refusal {
 }
 
 impl Refusal {
-    // A match and no discriminants, since three carry an octet.
     pub fn number(self) -> u8
         ensures { result ≡ number_of self }
     {
@@ -55,8 +54,7 @@ impl Refusal {
         }
     }
 
-    // The type octet of the message that was refused. A message's fault has its own, since the rules ask for one enum of
-    // twelve refusals, which cannot hold another.
+    // The type octet of the message that was refused.
     pub fn type_octet(self) -> Option<u8>
         ensures { result ≡ type_in self }
     {

@@ -2,7 +2,7 @@
 ghost use Rattle.std.specs.Prelude.{◌≡◌, ◌<◌};
 ghost use Rattle.supervision.specs.Trunks.{places, place_of, cic_of, cic_at, controls};
 
-use crate::trunk::Trunk;
+use crate::trunk::{SLOTS, Trunk};
 use policy::Place;
 use status::Cic;
 
@@ -11,7 +11,7 @@ impl Trunk {
     pub(crate) fn places(self) -> usize
         ensures { result ≡ places self.config }
     {
-        self.config.systems * 32
+        self.config.systems * SLOTS
     }
 
     // The place of a CIC in the table, if the trunk has it.

@@ -123,9 +123,6 @@ fn sweep<P: Policy>(
     count
 }
 
-// no struct of the four that are lent: each function would promise besides that it keeps the four references
-// no struct of a rule and its message: `ordered` and `singly` take the two, and only these functions have both
-// operations answer a pair of counts, words and octets, as the rules ask
 impl Trunk {
     // Does a rule at the place of an equipped circuit, and sends a message.
     pub(crate) fn perform_at<P: Policy>(

@@ -7,7 +7,7 @@ ghost use Rattle.supervision.specs.Telling.{Tells};
 
 use crate::judging::type_of;
 use crate::slots::Slots;
-use crate::trunk::Trunk;
+use crate::trunk::{SLOTS, Trunk};
 use circuit::{Circuit, Reset, Rule};
 use message::{BlockType, Grouped, Message};
 use policy::{Place, Policy};
@@ -25,7 +25,7 @@ fn slots_of(system: usize, status: &[u8]) -> Slots<'_>
     ensures status { result.group.status.now ≡ status.now }
 {
     Slots {
-        first: Place(system * 32 + 1),
+        first: Place(system * SLOTS + 1),
         group: Group {
             range: RANGE,
             status,
@@ -88,7 +88,6 @@ impl Trunk {
     }
 
     // Does an order of a type for the circuits of a mask, by the rule for that type.
-    // Type, PCM system and mask stay three numbers, as the operations take them.
     fn order_typed<P: Policy, F: Fn(BlockType) -> Rule>(
         self,
         rule: F,

@@ -15,10 +15,10 @@ use policy::{Place, Policy};
 use refusal::Refusal;
 use status::Cic;
 
-// what has to be lent: room for all that an operation writes
-const WORDS: usize = 96;
+// The fewest words and octets that are lent to an operation: room for all that one writes.
+pub const WORDS: usize = 96;
 
-const OCTETS: usize = 320;
+pub const OCTETS: usize = 320;
 
 impl Trunk {
     // Whether enough is lent.

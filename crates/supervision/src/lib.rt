@@ -11,4 +11,5 @@ mod single;
 mod slots;
 mod trunk;
 
-pub use trunk::{Config, Trunk};
+pub use judging::{OCTETS, WORDS};
+pub use trunk::{Config, MOST_SYSTEMS, SLOTS, Trunk};

@@ -4,7 +4,7 @@ ghost use Rattle.supervision.specs.Opening.{is_equipment, are_equipment, fits_tr
 ghost use Rattle.supervision.specs.Telling.{Tells, withdrawals, unopened};
 ghost use Rattle.policy.specs.Sets.{Follows};
 
-use crate::trunk::{Config, Trunk};
+use crate::trunk::{Config, MOST_SYSTEMS, SLOTS, Trunk};
 use circuit::Circuit;
 use policy::{Place, Policy};
 use refusal::Refusal;
@@ -29,10 +29,10 @@ fn fits_trunk(first: Cic, equipment: &[u32], places: usize) -> bool
     ensures fits { result ≡ true → (first.0 % 32 ≡ 0) × (1 ≤ length equipment.now) × (length equipment.now ≤ 16) × (first.0 + length equipment.now * 32 ≤ 4096) × (places ≡ length equipment.now * 32) }
 {
     let systems = equipment.len();
-    first.0 % 32 == 0
-        && (1..=16).contains(&systems)
-        && first.0 as usize + systems * 32 <= 4096
-        && places == systems * 32
+    first.0 as usize % SLOTS == 0
+        && (1..=MOST_SYSTEMS).contains(&systems)
+        && first.0 as usize + systems * SLOTS <= 4096
+        && places == systems * SLOTS
         && are_equipment(equipment)
 }
 
@@ -43,8 +43,8 @@ fn fill(equipment: &[u32], table: &mut [Circuit])
     ensures { table.new ≡ open_table equipment.now }
 {
     for (system, word) in equipment.iter().enumerate() {
-        for slot in 0..32 {
-            table[system * 32 + slot] = Circuit::fresh((*word >> slot) % 2 == 1);
+        for slot in 0..SLOTS {
+            table[system * SLOTS + slot] = Circuit::fresh((*word >> slot) % 2 == 1);
         }
     }
 }

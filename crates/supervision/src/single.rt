@@ -19,7 +19,6 @@ use status::Cic;
 
 impl Trunk {
     // Does an order for one circuit and sends its message.
-    // Rule and message stay two, as `singly` takes them.
     fn order<P: Policy>(
         self,
         cic: Cic,

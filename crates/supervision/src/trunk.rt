@@ -3,6 +3,12 @@ ghost use Rattle.std.specs.Prelude.{◌≡◌, ◌+◌, ◌*◌, ◌%◌, ◌≤
 
 use status::Cic;
 
+// A PCM system has a place for each of its time slots.
+pub const SLOTS: usize = 32;
+
+// The most PCM systems of a trunk.
+pub const MOST_SYSTEMS: usize = 16;
+
 // The numbers of a trunk.
 #[derive(Clone, Copy, PartialEq, Eq, Debug)]
 pub struct Config {

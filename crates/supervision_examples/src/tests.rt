@@ -4,30 +4,30 @@ use policy::{End, Place, Policy, Sequential};
 use refusal::Refusal;
 use status::Cic;
 use std::test::Fail;
-use supervision::Trunk;
+use supervision::{OCTETS, SLOTS, Trunk, WORDS};
 
 // An exchange with one PCM system from CIC 0 on, all time slots but 0, the higher point code, lowest circuit first.
 // Operations are lent arrays, since they have no heap.
 #[derive(Drop)]
 struct Exchange {
     trunk: Trunk,
-    table: [Circuit; 32],
+    table: [Circuit; SLOTS],
     policy: Sequential,
-    words: [u32; 96],
-    octets: [u8; 320],
+    words: [u32; WORDS],
+    octets: [u8; OCTETS],
 }
 
 impl Exchange {
     fn open() -> Result<Exchange, Refusal> {
-        let mut table = [Circuit::fresh(false); 32];
+        let mut table = [Circuit::fresh(false); SLOTS];
         let mut policy = Sequential::new(End::Low);
         let trunk = Trunk::open(Cic(0), &[0xffff_fffe], true, &mut table, &mut policy)?;
         Ok(Exchange {
             trunk,
             table,
             policy,
-            words: [0; 96],
-            octets: [0; 320],
+            words: [0; WORDS],
+            octets: [0; OCTETS],
         })
     }
 
@@ -104,7 +104,7 @@ fn short_words(rt: HostRuntime) -> Result<(), Fail> {
         Cic(5),
         &mut at.table,
         &mut at.policy,
-        &mut at.words[0..95],
+        &mut at.words[1..],
         &mut at.octets,
     );
     assert_eq!(rt; few, Err(Refusal::Buffers));

@@ -47,7 +47,7 @@ pub enum Word {
     Begun(Direction, Cic),
     // a call ended
     Ended(EndCause, Cic),
-    // a timer expired for the second time
+    // the second timer of a pair expired, or T5
     Alert(Timer, Cic),
 }
 
