@@ -1,5 +1,5 @@
 -- A group order does to each named circuit what the order for one does.
-use Rattle.std.proofs.Common.{◌≡◌, ℕ, ◌+◌, ◌-◌, ◌*◌, ◌%◌, ◌<◌, Bool, true, false, not, ◌&&◌, eqb, leb, List, length, Ok, Err, Result, sym, refl, ap, ◌∙◌, arith}
+use Rattle.std.proofs.Common.{◌≡◌, ℕ, ◌+◌, ◌-◌, ◌*◌, ◌%◌, ◌<◌, Bool, true, false, eqb, leb, List, length, Ok, Err, Result, sym, refl, ap, ◌∙◌, arith}
 use Rattle.std.proofs.lemmas.Bool.{le-leb, eq-eqb}
 use Rattle.std.proofs.lemmas.Bool.Decides.{nat_tests}
 use Rattle.message.specs.Msg.{Msg}
@@ -11,18 +11,16 @@ use Rattle.circuit.specs.declared.record.Reset.TheVariants as reset
 use Rattle.circuit.specs.declared.rules.Rule.{Rule}
 use Rattle.circuit.specs.declared.rules.Rule.TheVariants.{Reset}
 use Rattle.refusal.specs.declared.reasons.Refusal.{Refusal}
-use Rattle.refusal.specs.declared.reasons.Refusal.TheVariants.{Address, State}
 use Rattle.supervision.specs.declared.trunk.Config.{Config}
 use Rattle.supervision.specs.Laws.{placed, about, GroupLaws}
 use Rattle.supervision.specs.Lending.{Lent, Done}
-use Rattle.supervision.specs.Moves.{Move, table_of, words_of, some_from}
+use Rattle.supervision.specs.Moves.{Move, table_of, words_of}
 use Rattle.supervision.specs.Orders.{circuit_of, ordered, only, singly, slots, every_slot, status_of, groupwise}
 use Rattle.supervision.specs.Trunks.{cic_at}
-use Rattle.supervision.proofs.Allowing.{past, past_both, same_move}
+use Rattle.supervision.proofs.Allowing.{accepted}
 use Rattle.supervision.proofs.Keeping.{table_at, about-words}
 use Rattle.supervision.proofs.Masks.{named-slots}
 use Rattle.supervision.proofs.Naming.{acts, covers_in}
-use Rattle.supervision.proofs.Some.{none_at}
 
 here : (t : Config) (k : ℕ) (T : List Circuit) → circuit_of t (cic_at t k) T ≡ placed T k
 here t k T =
@@ -53,22 +51,6 @@ one_alike t k rule msg T l e a = (
   sym (made_of (only t (cic_at t k)) rule msg T k (alone t k) e),
   sym (told_at t (only t (cic_at t k)) rule msg T k l (alone t k) e),
 )
-
--- an accepted group order names equipped circuits that allow it
-pub accepted : (t : Config) (system mask : ℕ) (rule : Rule) (msg : Msg) (T : List Circuit) (m : Move) → groupwise t system mask rule msg T ≡ Ok m
-    → (m ≡ ordered (slots system mask) rule msg) × (eqb (mask % 2) 1 ≡ false)
-    × ((k : ℕ) → slots system mask k ≡ true → k < length T → ((placed T k).equipped ≡ true) × (allows rule (placed T k) ≡ true))
-accepted t system mask rule msg T m h =
-    let a = past (leb t.systems system) Address _ m h in
-    let b = past (eqb (mask % 2) 1) Address _ m a.1 in
-    let p = λ (k : ℕ) (c : Circuit). slots system mask k && not c.equipped in
-    let d = past (some_from p 0 T) Address _ m b.1 in
-    let q = λ (k : ℕ) (c : Circuit). slots system mask k && not (allows rule c) in
-    let f = past (some_from q 0 T) State _ m d.1 in (
-      sym (same_move (ordered (slots system mask) rule msg) m f.1),
-      b.0,
-      λ k n l. (past_both (slots system mask k) (placed T k).equipped (none_at p T k l d.0) n, past_both (slots system mask k) (allows rule (placed T k)) (none_at q T k l f.0) n),
-    )
 
 even_from : (x : ℕ) → eqb (x % 2) 1 ≡ false → x % 2 ≡ 0
 even_from x e = grind (arith, nat_tests)

@@ -52,16 +52,28 @@ past_both true true e h = refl
 past_both true false e h = absurd (false≢true (sym e))
 past_both false b e h = absurd (false≢true h)
 
--- an order for circuits of a PCM system may name each of them
-pub groupwise_allowed : (t : Config) (system mask : ℕ) (rule : Rule) (msg : Msg) (T : List Circuit) (m : Move) → groupwise t system mask rule msg T ≡ Ok m → Allowed m T
-groupwise_allowed t system mask rule msg T m h =
+-- an accepted group order names equipped circuits that allow it
+pub accepted : (t : Config) (system mask : ℕ) (rule : Rule) (msg : Msg) (T : List Circuit) (m : Move) → groupwise t system mask rule msg T ≡ Ok m
+    → (m ≡ ordered (slots system mask) rule msg) × (eqb (mask % 2) 1 ≡ false)
+    × ((k : ℕ) → slots system mask k ≡ true → k < length T → ((placed T k).equipped ≡ true) × (allows rule (placed T k) ≡ true))
+accepted t system mask rule msg T m h =
     let a = past (leb t.systems system) Address _ m h in
     let b = past (eqb (mask % 2) 1) Address _ m a.1 in
-    let d = past (some_from (λ k c. slots system mask k && not c.equipped) 0 T) Address _ m b.1 in
-    let p = λ (k : ℕ) (c : Circuit). slots system mask k && not (allows rule c) in
-    let f = past (some_from p 0 T) State _ m d.1 in
-    subst (λ (x : Move). Allowed x T) (same_move (ordered (slots system mask) rule msg) m f.1)
+    let p = λ (k : ℕ) (c : Circuit). slots system mask k && not c.equipped in
+    let d = past (some_from p 0 T) Address _ m b.1 in
+    let q = λ (k : ℕ) (c : Circuit). slots system mask k && not (allows rule c) in
+    let f = past (some_from q 0 T) State _ m d.1 in (
+      sym (same_move (ordered (slots system mask) rule msg) m f.1),
+      b.0,
+      λ k n l. (past_both (slots system mask k) (placed T k).equipped (none_at p T k l d.0) n, past_both (slots system mask k) (allows rule (placed T k)) (none_at q T k l f.0) n),
+    )
+
+-- so an order for circuits of a PCM system may name each of them
+pub groupwise_allowed : (t : Config) (system mask : ℕ) (rule : Rule) (msg : Msg) (T : List Circuit) (m : Move) → groupwise t system mask rule msg T ≡ Ok m → Allowed m T
+groupwise_allowed t system mask rule msg T m h =
+    let w = accepted t system mask rule msg T m h in
+    subst (λ (x : Move). Allowed x T) (sym w.0)
     (λ k n e. ⊎_elim
-    (λ (l : k < length T). order_keeps rule (placed T k) (past_both (slots system mask k) (allows rule (placed T k)) (none_at p T k l f.0) n))
+    (λ (l : k < length T). order_keeps rule (placed T k) (w.2 k n l).1)
     (λ (l : length T ≤ k). absurd (false≢true (sym (ap (λ c. c.equipped) (get_or_past T k vacant l)) ∙ e)))
     (cases_lt k (length T)))

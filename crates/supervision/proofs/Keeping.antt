@@ -59,21 +59,16 @@ step_keeps m T h k = ⊎_elim
 
 -- ## The words of one circuit
 
+-- one word more, if it is about the circuit
+about_more : (b : Bool) (w : Word) (ws us vs : List Word) → ws ≡ us ++ vs → cond b (w ∷ ws) ws ≡ cond b (w ∷ us) us ++ vs
+about_more true w ws us vs e = rw e refl
+about_more false w ws us vs e = e
+
 about-append : (n : ℕ) (xs ys : List Word) → about n (xs ++ ys) ≡ about n xs ++ about n ys
 about-append n [] ys = refl
 about-append n (Send p l ∷ xs) ys = about-append n xs ys
-about-append n (Begun w c ∷ xs) ys = go (eqb c.0 n) (about-append n xs ys)
-  where
-    go : (b : Bool) → about n (xs ++ ys) ≡ about n xs ++ about n ys
-        → cond b (Begun w c ∷ about n (xs ++ ys)) (about n (xs ++ ys)) ≡ cond b (Begun w c ∷ about n xs) (about n xs) ++ about n ys
-    go true e = rw e refl
-    go false e = e
-about-append n (Ended w c ∷ xs) ys = go (eqb c.0 n) (about-append n xs ys)
-  where
-    go : (b : Bool) → about n (xs ++ ys) ≡ about n xs ++ about n ys
-        → cond b (Ended w c ∷ about n (xs ++ ys)) (about n (xs ++ ys)) ≡ cond b (Ended w c ∷ about n xs) (about n xs) ++ about n ys
-    go true e = rw e refl
-    go false e = e
+about-append n (Begun w c ∷ xs) ys = about_more (eqb c.0 n) (Begun w c) (about n (xs ++ ys)) (about n xs) (about n ys) (about-append n xs ys)
+about-append n (Ended w c ∷ xs) ys = about_more (eqb c.0 n) (Ended w c) (about n (xs ++ ys)) (about n xs) (about n ys) (about-append n xs ys)
 about-append n (Alert t c ∷ xs) ys = about-append n xs ys
 
 about_own : (c : Cic) (n : ℕ) (d : Change) → c.0 ≡ n → about n (told_of c d) ≡ told_of c d
