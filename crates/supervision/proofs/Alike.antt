@@ -12,11 +12,11 @@ use Rattle.circuit.specs.declared.rules.Rule.{Rule}
 use Rattle.circuit.specs.declared.rules.Rule.TheVariants.{Reset}
 use Rattle.refusal.specs.declared.reasons.Refusal.{Refusal}
 use Rattle.supervision.specs.declared.trunk.Config.{Config}
-use Rattle.supervision.specs.Laws.{placed, about, GroupLaws}
+use Rattle.supervision.specs.Laws.{about, GroupLaws}
 use Rattle.supervision.specs.Lending.{Lent, Done}
 use Rattle.supervision.specs.Moves.{Move, table_of, words_of}
 use Rattle.supervision.specs.Orders.{circuit_of, ordered, only, singly, slots, every_slot, status_of, groupwise}
-use Rattle.supervision.specs.Trunks.{cic_at}
+use Rattle.supervision.specs.Trunks.{cic_at, placed}
 use Rattle.supervision.proofs.Allowing.{accepted}
 use Rattle.supervision.proofs.Keeping.{table_at, about-words}
 use Rattle.supervision.proofs.Masks.{named-slots}

@@ -12,7 +12,7 @@ use Rattle.circuit.proofs.Keeping.{order_keeps}
 use Rattle.refusal.specs.declared.reasons.Refusal.{Refusal}
 use Rattle.refusal.specs.declared.reasons.Refusal.TheVariants.{Address, State}
 use Rattle.supervision.specs.declared.trunk.Config.{Config}
-use Rattle.supervision.specs.Laws.{placed}
+use Rattle.supervision.specs.Trunks.{placed}
 use Rattle.supervision.specs.Moves.{Move, some_from}
 use Rattle.supervision.specs.Orders.{circuit_of, ordered, only, singly, slots, groupwise}
 use Rattle.refusal.specs.Refusals.{unless}

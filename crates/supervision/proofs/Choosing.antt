@@ -13,7 +13,8 @@ use Rattle.circuit.specs.declared.record.Circuit.{Circuit}
 use Rattle.circuit.specs.declared.rules.Rule.TheVariants.{Seize}
 use Rattle.refusal.specs.declared.reasons.Refusal.{Refusal}
 use Rattle.supervision.specs.declared.trunk.Config.{Config}
-use Rattle.supervision.specs.Laws.{placed, SetIsOpen}
+use Rattle.supervision.specs.Laws.{SetIsOpen}
+use Rattle.supervision.specs.Trunks.{placed}
 use Rattle.supervision.specs.Lending.{Lent, Performed}
 use Rattle.supervision.specs.Orders.{ordered}
 use Rattle.supervision.specs.Telling.{Tells}

@@ -5,7 +5,8 @@ use Rattle.std.proofs.lemmas.List.{get_or_past}
 use Rattle.std.proofs.lemmas.Bool.{cases_lt}
 use Rattle.circuit.specs.Circuits.{fresh, vacant, is_open}
 use Rattle.circuit.specs.declared.record.Circuit.{Circuit}
-use Rattle.supervision.specs.Laws.{placed, AllSound, SetIsOpen}
+use Rattle.supervision.specs.Laws.{AllSound, SetIsOpen}
+use Rattle.supervision.specs.Trunks.{placed}
 use Rattle.supervision.specs.Opening.{equipped_at, open_table, open_set}
 
 open_at : (ws : List ℕ) (k : ℕ) → (b : Bool) × (placed (open_table ws) k ≡ fresh b)

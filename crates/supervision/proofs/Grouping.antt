@@ -11,7 +11,7 @@ use Rattle.supervision.specs.declared.trunk.Config.{Config}
 use Rattle.supervision.specs.Moves.{Move, some_from}
 use Rattle.supervision.specs.Orders.{ordered, slots, status_of, groupwise}
 use Rattle.refusal.specs.Refusals.{unless, and_then}
-use Rattle.supervision.specs.Steps.{covers}
+use Rattle.supervision.specs.Trunks.{covers}
 use Rattle.supervision.proofs.Masks.{named-slots}
 
 -- what the judge of named circuits answers

@@ -13,7 +13,7 @@ use Rattle.message.specs.declared.kinds.Grouped.{Grouped}
 use Rattle.message.specs.declared.kinds.Grouped.TheVariants.{Cgb, Cgu, Cgba, Cgua}
 use Rattle.message.specs.declared.kinds.Single.TheVariants.{Rsc, Blo, Ubl, Bla, Uba}
 use Rattle.circuit.proofs.Keeping.{iam_keeps, progress_keeps, rel_keeps, rlc_keeps, far_block_keeps, far_unblock_keeps, block_ack_keeps, unblock_ack_keeps, rsc_keeps, grs_keeps, gra_keeps, reset_keeps}
-use Rattle.circuit.specs.Circuits.{is_releasing, is_asked, is_lifting, is_single, is_group}
+use Rattle.circuit.specs.Circuits.{is_releasing, is_single, is_group}
 use Rattle.circuit.specs.Laws.{Keeps}
 use Rattle.circuit.specs.Orders.{on_reset}
 use Rattle.told.specs.Words.{timer_of}
@@ -28,13 +28,13 @@ use Rattle.refusal.specs.declared.reasons.Refusal.TheVariants.{Address, Argument
 use Rattle.supervision.specs.declared.trunk.Config.{Config}
 use Rattle.supervision.specs.Expiring.{repeating, repeats_one, repeats_group, repeats_reset, asked_for, lifting_for, alert_at, expired, timed, expiring}
 use Rattle.supervision.specs.Groups.{mask_by, group_for}
-use Rattle.supervision.specs.Laws.{placed, Lawful}
+use Rattle.supervision.specs.Laws.{Lawful}
 use Rattle.supervision.specs.Lending.{Lent, carried}
 use Rattle.supervision.specs.Moves.{Move, some_from}
 use Rattle.supervision.specs.Orders.{admitted, circuit_of, only, why_of}
 use Rattle.supervision.specs.Receiving.{as_cic, moving, nothing, to_one, is_range, in_range, marked, to_range, is_counted, heard, receiving}
 use Rattle.refusal.specs.Refusals.{raised, unless, and_then}
-use Rattle.supervision.specs.Trunks.{controls, first_of}
+use Rattle.supervision.specs.Trunks.{controls, first_of, placed}
 use Rattle.supervision.proofs.Allowing.{past, same_move}
 use Rattle.supervision.proofs.Keeping.{Allowed, lawful, quiet_keeps}
 
@@ -126,12 +126,12 @@ expired_allowed : (t : Config) (timer : Timer) (at kind : ℕ) (T : List Circuit
 expired_allowed t T1 at kind T m e = one_repeated t at (λ x. is_releasing x.call) (λ x. release at (x.cause.location ∷ x.cause.value ∷ [])) None T m e
 expired_allowed t T5 at kind T m e =
     repeat_allowed t at (is_releasing (circuit_of t (as_cic at) T).call)
-    (record { named = only t (as_cic at); rule = λ _. on_reset reset.Single; sent = single at Rsc ∷ []; alert = Some (T5, as_cic at) }) T m
+    (record { named = only t (as_cic at); rule = λ _. on_reset reset.Single; sent = single at Rsc ∷ []; alert = alert_at T5 at }) T m
     (λ k n q. reset_keeps reset.Single (placed T k)) e
-expired_allowed t T12 at kind T m e = one_repeated t at (λ x. is_asked x.local.maintenance) (λ _. single at Blo) None T m e
-expired_allowed t T13 at kind T m e = one_repeated t at (λ x. is_asked x.local.maintenance) (λ _. single at Blo) (alert_at T13 at) T m e
-expired_allowed t T14 at kind T m e = one_repeated t at (λ x. is_lifting x.local.maintenance) (λ _. single at Ubl) None T m e
-expired_allowed t T15 at kind T m e = one_repeated t at (λ x. is_lifting x.local.maintenance) (λ _. single at Ubl) (alert_at T15 at) T m e
+expired_allowed t T12 at kind T m e = one_repeated t at (asked_for Maintenance) (λ _. single at Blo) None T m e
+expired_allowed t T13 at kind T m e = one_repeated t at (asked_for Maintenance) (λ _. single at Blo) (alert_at T13 at) T m e
+expired_allowed t T14 at kind T m e = one_repeated t at (lifting_for Maintenance) (λ _. single at Ubl) None T m e
+expired_allowed t T15 at kind T m e = one_repeated t at (lifting_for Maintenance) (λ _. single at Ubl) (alert_at T15 at) T m e
 expired_allowed t T16 at kind T m e = one_repeated t at (λ x. is_single x.reset) (λ _. single at Rsc) None T m e
 expired_allowed t T17 at kind T m e = one_repeated t at (λ x. is_single x.reset) (λ _. single at Rsc) (alert_at T17 at) T m e
 expired_allowed t T18 at kind T m e = group_repeated t at kind Cgb asked_for None T m e

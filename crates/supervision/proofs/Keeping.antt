@@ -17,10 +17,10 @@ use Rattle.told.specs.declared.kinds.Word.{Word}
 use Rattle.told.specs.declared.kinds.Word.TheVariants.{Send, Begun, Ended, Alert}
 use Rattle.refusal.specs.declared.reasons.Refusal.{Refusal}
 use Rattle.supervision.specs.declared.trunk.Config.{Config}
-use Rattle.supervision.specs.Laws.{placed, SetIsOpen, about, Lawful, Outcome}
+use Rattle.supervision.specs.Laws.{SetIsOpen, about, Lawful, Outcome}
 use Rattle.supervision.specs.Lending.{Lent, Performed, kept, settled, carried}
 use Rattle.supervision.specs.Moves.{Move, each_from, told_from, sends_from, step_of, table_of, call_words, alert_word, words_of}
-use Rattle.supervision.specs.Trunks.{cic_at}
+use Rattle.supervision.specs.Trunks.{cic_at, placed}
 use Rattle.supervision.proofs.Naming.{unnamed, unequipped, acts}
 use Rattle.supervision.proofs.Settling.{settled_at_lem, length-settled}
 use Rattle.supervision.proofs.Stepping.{Step, length_each}

@@ -5,7 +5,7 @@ use Rattle.std.proofs.lemmas.Nat.{shr-shr}
 use Rattle.std.proofs.lemmas.Bool.{and_left, and_right, cases_eq, cases_lt, eq-eqb, ne_eqb, le-leb}
 use Rattle.status.specs.Bits.{bit_at}
 use Rattle.supervision.specs.Orders.{slots, status_of}
-use Rattle.supervision.specs.Steps.{covers}
+use Rattle.supervision.specs.Trunks.{covers}
 use Rattle.supervision.proofs.Naming.{covers_below, covers_past, covers_in}
 
 octet_bit : (x m : ℕ) → m < 8 → x % 256 / 2 ^ m % 2 ≡ x / 2 ^ m % 2

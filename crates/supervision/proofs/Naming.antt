@@ -6,7 +6,7 @@ use Rattle.circuit.specs.Changes.{quiet}
 use Rattle.circuit.specs.declared.record.Circuit.{Circuit}
 use Rattle.circuit.specs.declared.rules.Change.{Change}
 use Rattle.supervision.specs.Moves.{where_named}
-use Rattle.supervision.specs.Steps.{covers}
+use Rattle.supervision.specs.Trunks.{covers}
 
 pub covers_below : (first r : ℕ) (s : List ℕ) (k : ℕ) → k < first → covers first r s k ≡ false
 covers_below first r s k l = and_left (leb first k) (is_named r s (k - first)) (lt-leb first k l)

@@ -8,7 +8,7 @@ use Rattle.status.specs.Bits.{is_named}
 use Rattle.circuit.specs.Circuits.{vacant}
 use Rattle.circuit.specs.declared.record.Circuit.{Circuit}
 use Rattle.supervision.specs.Moves.{some_from}
-use Rattle.supervision.specs.Steps.{covers}
+use Rattle.supervision.specs.Trunks.{covers}
 use Rattle.supervision.proofs.Naming.{covers_in, covers_none}
 use Rattle.supervision.proofs.Some.{none, some}
 

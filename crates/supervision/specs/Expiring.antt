@@ -3,6 +3,7 @@ use Rattle.std.specs.Prelude.{ℕ, Bool, false, cond, not, ◌&&◌, List, [], �
 use Rattle.status.specs.declared.circuit.Cic.{Cic}
 use Rattle.message.specs.Msg.{Msg, single, release}
 use Rattle.message.specs.declared.kinds.BlockType.{BlockType}
+use Rattle.message.specs.declared.kinds.BlockType.TheVariants.{Maintenance}
 use Rattle.message.specs.declared.kinds.Grouped.{Grouped}
 use Rattle.message.specs.declared.kinds.Grouped.TheVariants.{Cgb, Cgu}
 use Rattle.message.specs.declared.kinds.Single.TheVariants.{Rsc, Blo, Ubl}
@@ -29,19 +30,26 @@ use Rattle.supervision.specs.Trunks.{first_of}
 abbrev pub repeating : List Msg → Option (Timer × Cic) → Move
 repeating sent alert = record { named = λ _. false; rule = λ _. quiet; sent = sent; alert = alert }
 
--- a message for one circuit, where it is still waited for
-abbrev pub repeats_one : Config → ℕ → (Circuit → Bool) → (Circuit → Msg) → Option (Timer × Cic) → List Circuit → Result Move Refusal
-repeats_one t c waits message alert table =
+-- a move for one circuit, where something is waited for there
+abbrev pub for_one : Config → ℕ → (Circuit → Bool) → (Circuit → Move) → List Circuit → Result Move Refusal
+for_one t c waits move table =
     unless (not (circuit_of t (as_cic c) table).equipped) Address
-    (Ok (cond (waits (circuit_of t (as_cic c) table)) (repeating (message (circuit_of t (as_cic c) table) ∷ []) alert) nothing))
+    (Ok (cond (waits (circuit_of t (as_cic c) table)) (move (circuit_of t (as_cic c) table)) nothing))
+
+-- its message, where it is still waited for
+abbrev pub repeats_one : Config → ℕ → (Circuit → Bool) → (Circuit → Msg) → Option (Timer × Cic) → List Circuit → Result Move Refusal
+repeats_one t c waits message alert table = for_one t c waits (λ x. repeating (message x ∷ []) alert) table
+
+-- the alert of the second timer of a pair: for a circuit, and for a PCM system by the CIC of its time slot 1
+abbrev pub alert_at : Timer → ℕ → Option (Timer × Cic)
+alert_at timer c = Some (timer, as_cic c)
 
 -- T5 on a releasing circuit does a circuit reset and alerts
 abbrev pub gives_up : Config → ℕ → List Circuit → Result Move Refusal
 gives_up t c table =
-    unless (not (circuit_of t (as_cic c) table).equipped) Address
-    (Ok (cond (is_releasing (circuit_of t (as_cic c) table).call)
-    (record { named = only t (as_cic c); rule = λ _. on_reset reset.Single; sent = single c Rsc ∷ []; alert = Some (T5, as_cic c) })
-    nothing))
+    for_one t c (λ x. is_releasing x.call)
+    (λ _. record { named = only t (as_cic c); rule = λ _. on_reset reset.Single; sent = single c Rsc ∷ []; alert = alert_at T5 c })
+    table
 
 -- a group message, naming the circuits of the PCM system that wait
 abbrev pub repeats_group : Config → ℕ → ℕ → Grouped → (BlockType → Circuit → Bool) → Option (Timer × Cic) → List Circuit → Result Move Refusal
@@ -64,17 +72,13 @@ asked_for why x = is_asked (block_of why x.local)
 abbrev pub lifting_for : BlockType → Circuit → Bool
 lifting_for why x = is_lifting (block_of why x.local)
 
--- the alert of the second timer of a pair: for a circuit, and for a PCM system by the CIC of its time slot 1
-abbrev pub alert_at : Timer → ℕ → Option (Timer × Cic)
-alert_at timer c = Some (timer, as_cic c)
-
 abbrev pub expired : Config → Timer → ℕ → ℕ → List Circuit → Result Move Refusal
 expired t T1 at kind table = repeats_one t at (λ x. is_releasing x.call) (λ x. release at (x.cause.location ∷ x.cause.value ∷ [])) None table
 expired t T5 at kind table = gives_up t at table
-expired t T12 at kind table = repeats_one t at (λ x. is_asked x.local.maintenance) (λ _. single at Blo) None table
-expired t T13 at kind table = repeats_one t at (λ x. is_asked x.local.maintenance) (λ _. single at Blo) (alert_at T13 at) table
-expired t T14 at kind table = repeats_one t at (λ x. is_lifting x.local.maintenance) (λ _. single at Ubl) None table
-expired t T15 at kind table = repeats_one t at (λ x. is_lifting x.local.maintenance) (λ _. single at Ubl) (alert_at T15 at) table
+expired t T12 at kind table = repeats_one t at (asked_for Maintenance) (λ _. single at Blo) None table
+expired t T13 at kind table = repeats_one t at (asked_for Maintenance) (λ _. single at Blo) (alert_at T13 at) table
+expired t T14 at kind table = repeats_one t at (lifting_for Maintenance) (λ _. single at Ubl) None table
+expired t T15 at kind table = repeats_one t at (lifting_for Maintenance) (λ _. single at Ubl) (alert_at T15 at) table
 expired t T16 at kind table = repeats_one t at (λ x. is_single x.reset) (λ _. single at Rsc) None table
 expired t T17 at kind table = repeats_one t at (λ x. is_single x.reset) (λ _. single at Rsc) (alert_at T17 at) table
 expired t T18 at kind table = repeats_group t at kind Cgb asked_for None table

@@ -6,7 +6,7 @@ use Rattle.message.specs.declared.kinds.Grouped.{Grouped}
 use Rattle.circuit.specs.declared.record.Circuit.{Circuit}
 use Rattle.status.specs.Bits.{octets_for}
 use Rattle.supervision.specs.declared.trunk.Config.{Config}
-use Rattle.supervision.specs.Laws.{placed}
+use Rattle.supervision.specs.Trunks.{placed}
 use Rattle.supervision.specs.Orders.{group_message}
 
 -- the number whose bits below n are set where the test holds

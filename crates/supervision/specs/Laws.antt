@@ -3,7 +3,7 @@ use Rattle.std.specs.Prelude.{◌≡◌, ℕ, ◌+◌, ◌*◌, ◌<◌, ◌≤�
 use Rattle.status.specs.Bits.{is_named}
 use Rattle.message.specs.Msg.{Msg}
 use Rattle.circuit.specs.Changes.{with_reset}
-use Rattle.circuit.specs.Circuits.{vacant, is_open, is_sound, is_engaged}
+use Rattle.circuit.specs.Circuits.{is_open, is_sound, is_engaged}
 use Rattle.circuit.specs.Laws.{Turns, told_of}
 use Rattle.circuit.specs.Orders.{on_reset}
 use Rattle.circuit.specs.declared.record.Circuit.{Circuit}
@@ -16,11 +16,7 @@ use Rattle.supervision.specs.declared.trunk.Config.{Config}
 use Rattle.supervision.specs.Lending.{Lent, kept, Done}
 use Rattle.supervision.specs.Moves.{Move, table_of, words_of}
 use Rattle.supervision.specs.Orders.{singly, slots, every_slot, status_of}
-use Rattle.supervision.specs.Trunks.{cic_at}
-
--- the circuit at a place
-abbrev pub placed : List Circuit → ℕ → Circuit
-placed table k = slice_index_or table k vacant
+use Rattle.supervision.specs.Trunks.{cic_at, placed}
 
 -- every record is sound
 abbrev pub AllSound : List Circuit → Type 0

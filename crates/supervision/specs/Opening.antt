@@ -10,7 +10,8 @@ use Rattle.refusal.specs.declared.reasons.Refusal.{Refusal}
 use Rattle.refusal.specs.declared.reasons.Refusal.TheVariants.{Opening, Places}
 use Rattle.supervision.specs.declared.trunk.Config.{Config}
 use Rattle.supervision.specs.declared.trunk.Trunk.{Trunk}
-use Rattle.supervision.specs.Laws.{placed, AllSound, SetIsOpen}
+use Rattle.supervision.specs.Laws.{AllSound, SetIsOpen}
+use Rattle.supervision.specs.Trunks.{placed}
 use Rattle.supervision.specs.Telling.{Tells, withdrawals, unopened}
 use Rattle.refusal.specs.Refusals.{unless}
 

@@ -1,5 +1,5 @@
 -- What the rules answer to the orders of our side: a refusal, or a move.
-use Rattle.std.specs.Prelude.{ℕ, ◌+◌, ◌-◌, ◌/◌, ◌%◌, ◌^◌, Bool, cond, not, ◌&&◌, ◌||◌, List, [], ◌∷◌, length, None, Ok, Result, ◌==◌, nat_le, nat_lt, slice_index_or}
+use Rattle.std.specs.Prelude.{ℕ, ◌+◌, ◌-◌, ◌/◌, ◌%◌, ◌^◌, Bool, cond, not, ◌&&◌, ◌||◌, List, [], ◌∷◌, length, None, Ok, Result, ◌==◌, nat_le, nat_lt}
 use Rattle.status.specs.declared.circuit.Cic.{Cic}
 use Rattle.message.specs.Meaning.{indicator_of}
 use Rattle.message.specs.Msg.{Msg, single, release, grouped, group_reset}
@@ -22,7 +22,7 @@ use Rattle.supervision.specs.declared.trunk.Config.{Config}
 use Rattle.supervision.specs.Lending.{Lent}
 use Rattle.supervision.specs.Moves.{Move, some_from}
 use Rattle.refusal.specs.Refusals.{unless, and_then}
-use Rattle.supervision.specs.Trunks.{places, first_of}
+use Rattle.supervision.specs.Trunks.{places, first_of, placed}
 
 -- what every operation on an open trunk refuses first
 abbrev pub admitted : Config → ℕ → Lent → Result (Unit {0}) Refusal
@@ -33,7 +33,7 @@ admitted t room lent =
 
 -- the circuit of a CIC; where the table has no such place, one that is not equipped
 abbrev pub circuit_of : Config → Cic → List Circuit → Circuit
-circuit_of t cic table = cond (nat_le t.first.0 cic.0) (slice_index_or table (cic.0 - t.first.0) vacant) vacant
+circuit_of t cic table = cond (nat_le t.first.0 cic.0) (placed table (cic.0 - t.first.0)) vacant
 
 -- an order's move: a rule for the places named, and one message
 abbrev pub ordered : (ℕ → Bool) → Rule → Msg → Move

@@ -21,8 +21,7 @@ use Rattle.supervision.specs.Lending.{Lent}
 use Rattle.supervision.specs.Moves.{Move, some_from}
 use Rattle.supervision.specs.Orders.{admitted, circuit_of, only, why_of}
 use Rattle.refusal.specs.Refusals.{raised, unless, and_then}
-use Rattle.supervision.specs.Steps.{covers}
-use Rattle.supervision.specs.Trunks.{places, controls}
+use Rattle.supervision.specs.Trunks.{places, controls, covers}
 
 abbrev pub as_cic : ℕ → Cic
 as_cic c = record { 0 = c }

@@ -12,7 +12,8 @@ use Rattle.circuit.specs.declared.rules.Rule.TheVariants.{Seize}
 use Rattle.refusal.specs.declared.reasons.Refusal.{Refusal}
 use Rattle.refusal.specs.declared.reasons.Refusal.TheVariants.{Argument, NoneOpen, Choice}
 use Rattle.supervision.specs.declared.trunk.Config.{Config}
-use Rattle.supervision.specs.Laws.{placed, SetIsOpen, Outcome}
+use Rattle.supervision.specs.Laws.{SetIsOpen, Outcome}
+use Rattle.supervision.specs.Trunks.{placed}
 use Rattle.supervision.specs.Lending.{Lent}
 use Rattle.supervision.specs.Moves.{Move}
 use Rattle.supervision.specs.Orders.{admitted, ordered}

@@ -1,6 +1,5 @@
 -- The steps that the code takes, one place at a time.
-use Rattle.std.specs.Prelude.{◌≡◌, ℕ, ◌-◌, Bool, true, false, ◌&&◌, List, map, length, nat_le, slice_set}
-use Rattle.status.specs.Bits.{is_named}
+use Rattle.std.specs.Prelude.{◌≡◌, ℕ, Bool, true, false, List, map, length, slice_set}
 use Rattle.told.specs.Words.{number_of}
 use Rattle.circuit.specs.declared.record.Circuit.{Circuit}
 use Rattle.circuit.specs.declared.rules.Change.{Change}
@@ -8,6 +7,7 @@ use Rattle.supervision.specs.declared.slots.Slots.{Slots}
 use Rattle.supervision.specs.declared.trunk.Config.{Config}
 use Rattle.supervision.specs.Lending.{over, settled}
 use Rattle.supervision.specs.Moves.{each_from, told_from}
+use Rattle.supervision.specs.Trunks.{covers}
 
 -- the set after the circuit at the place k went from open or not to open or not
 abbrev pub settled_at : List Bool → ℕ → Bool → Bool → List Bool
@@ -15,10 +15,6 @@ settled_at h k true true = h
 settled_at h k true false = slice_set h k false
 settled_at h k false true = slice_set h k true
 settled_at h k false false = h
-
--- the places from `first` on that a status of the range r names
-abbrev pub covers : ℕ → ℕ → List ℕ → ℕ → Bool
-covers first r status k = nat_le first k && is_named r status (k - first)
 
 -- the places that slots name
 abbrev pub named_by : Slots → ℕ → Bool

@@ -1,6 +1,9 @@
--- A trunk's places, CICs and time slots.
-use Rattle.std.specs.Prelude.{ℕ, ◌+◌, ◌-◌, ◌*◌, ◌%◌, Bool, true, false, cond, not, ◌&&◌, Some, None, Option, ◌==◌, nat_le, nat_lt}
+-- A trunk's places, CICs and time slots, and the circuits there.
+use Rattle.std.specs.Prelude.{ℕ, ◌+◌, ◌-◌, ◌*◌, ◌%◌, Bool, true, false, cond, not, ◌&&◌, Some, None, Option, ◌==◌, nat_le, nat_lt, List, slice_index_or}
+use Rattle.status.specs.Bits.{is_named}
 use Rattle.status.specs.declared.circuit.Cic.{Cic}
+use Rattle.circuit.specs.Circuits.{vacant}
+use Rattle.circuit.specs.declared.record.Circuit.{Circuit}
 use Rattle.policy.specs.declared.interface.Place.{Place}
 use Rattle.supervision.specs.declared.trunk.Config.{Config}
 
@@ -33,3 +36,11 @@ controls t cic = same (cic.0 % 2 == 0) t.higher
 -- the CIC of time slot 1 of a PCM system, from which our group messages count
 abbrev pub first_of : Config → ℕ → ℕ
 first_of t system = t.first.0 + system * 32 + 1
+
+-- the circuit at a place
+abbrev pub placed : List Circuit → ℕ → Circuit
+placed table k = slice_index_or table k vacant
+
+-- the places from `first` on that a status of the range r names
+abbrev pub covers : ℕ → ℕ → List ℕ → ℕ → Bool
+covers first r status k = nat_le first k && is_named r status (k - first)

@@ -7,13 +7,12 @@ ghost use Rattle.circuit.specs.Laws.{told_of};
 ghost use Rattle.circuit.specs.Orders.{applied};
 ghost use Rattle.policy.specs.Sets.{Follows};
 ghost use Rattle.told.specs.Words.{number_of};
-ghost use Rattle.supervision.specs.Laws.{placed};
 ghost use Rattle.supervision.specs.Lending.{Performed, Sendable, Suffices, lent, over};
 ghost use Rattle.supervision.specs.Moves.{where_named};
 ghost use Rattle.supervision.specs.Orders.{ordered};
 ghost use Rattle.supervision.specs.Steps.{settled_at, named_by, Stood};
 ghost use Rattle.supervision.specs.Telling.{word_at, Tells};
-ghost use Rattle.supervision.specs.Trunks.{places, cic_at};
+ghost use Rattle.supervision.specs.Trunks.{places, cic_at, placed};
 
 use crate::slots::Slots;
 use crate::trunk::Trunk;

@@ -1,11 +1,10 @@
 // What an order is refused for, before anything is changed.
-ghost use Rattle.std.specs.Prelude.{◌≡◌, ◌+◌, ◌-◌, ◌<◌, ◌≤◌, true, not, length, get_or, IfOk, Ok, OnOk, ◌==◌};
-ghost use Rattle.circuit.specs.Circuits.{vacant};
+ghost use Rattle.std.specs.Prelude.{◌≡◌, ◌+◌, ◌-◌, ◌<◌, ◌≤◌, true, not, length, IfOk, Ok, OnOk, ◌==◌};
 ghost use Rattle.circuit.specs.Laws.{allows};
 ghost use Rattle.supervision.specs.Lending.{Suffices, lent};
 ghost use Rattle.supervision.specs.Orders.{admitted, circuit_of, cause_of, type_of};
 ghost use Rattle.refusal.specs.Refusals.{unless};
-ghost use Rattle.supervision.specs.Trunks.{places};
+ghost use Rattle.supervision.specs.Trunks.{places, placed};
 ghost use Rattle.refusal.specs.declared.reasons.Refusal.TheVariants.{Address, State};
 
 use crate::trunk::Trunk;
@@ -45,7 +44,7 @@ impl Trunk {
     pub(crate) fn find(self, cic: Cic, rule: Rule, table: &[Circuit]) -> Result<Place, Refusal>
         requires { length table.now ≡ places self.config }
         ensures value { result ≡ unless (not (circuit_of self.config cic table.now).equipped) Address (unless (not (allows rule (circuit_of self.config cic table.now))) State (Ok (record { 0 = cic.0 - self.config.first.0 }))) }
-        ensures found { IfOk result (λ p. (self.config.first.0 ≤ cic.0) × (p.0 < length table.now) × ((get_or table.now p.0 vacant).equipped ≡ true)) }
+        ensures found { IfOk result (λ p. (self.config.first.0 ≤ cic.0) × (p.0 < length table.now) × ((placed table.now p.0).equipped ≡ true)) }
     {
         let place = self.place(cic).ok_or(Refusal::Address)?;
         let circuit = table[place.0];

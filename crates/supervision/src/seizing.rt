@@ -3,7 +3,7 @@ ghost use Rattle.std.specs.Prelude.{◌≡◌, ◌<◌, true, length, IfOk, Opti
 ghost use Rattle.policy.specs.Sets.{Chosen};
 ghost use Rattle.policy.specs.declared.interface.Place.{Place as ChosenPlace};
 ghost use Rattle.circuit.specs.Circuits.{is_open};
-ghost use Rattle.supervision.specs.Laws.{placed};
+ghost use Rattle.supervision.specs.Trunks.{placed};
 ghost use Rattle.supervision.specs.Lending.{lent};
 ghost use Rattle.supervision.specs.Seizing.{seizable, Seized};
 

@@ -3,7 +3,7 @@ use Rattle.std.proofs.lemmas.List.FromFn.{fill_by_all}
 use Rattle.std.proofs.lemmas.List.{get_or_past}
 use Rattle.std.proofs.lemmas.Bool.{cases_lt, lt-ltb, le-ltb}
 use Rattle.circuit.specs.Circuits.{is_open, vacant}
-use Rattle.supervision.specs.Laws.{placed}
+use Rattle.supervision.specs.Trunks.{placed}
 use Rattle.supervision.specs.Telling.{unopened}
 use Rattle.std.proofs.lemmas.Bool.Decides.{nat_tests, eqb_tells}
 use Rattle.supervision.proofs.Turning.{tells_same, offers_more, offers_all}

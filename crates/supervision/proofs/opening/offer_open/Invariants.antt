@@ -1,6 +1,6 @@
 use Rattle.std.proofs.Common.{◌≡◌, ℕ, false, ◌&&◌, ltb, get_or, take}
 use Rattle.circuit.specs.Circuits.{is_open}
-use Rattle.supervision.specs.Laws.{placed}
+use Rattle.supervision.specs.Trunks.{placed}
 use Rattle.supervision.specs.Lending.{over}
 use Rattle.supervision.specs.Telling.{Tells, unopened}
 use Rattle.supervision.proofs.opening.offer_open.Given as goal

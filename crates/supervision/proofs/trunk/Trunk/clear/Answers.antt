@@ -4,12 +4,10 @@ use Rattle.message.specs.Msg.{Msg, group_reset}
 use Rattle.circuit.proofs.Keeping.{order_keeps}
 use Rattle.circuit.specs.declared.record.Reset.TheVariants as reset
 use Rattle.circuit.specs.declared.rules.Rule.TheVariants.{Reset}
-use Rattle.supervision.specs.Laws.{placed}
 use Rattle.supervision.specs.Lending.{Lent, Performed, lent}
 use Rattle.supervision.specs.Moves.{Move}
 use Rattle.supervision.specs.Orders.{clearing, ordered, slots, every_slot, status_of}
-use Rattle.supervision.specs.Steps.{covers}
-use Rattle.supervision.specs.Trunks.{first_of}
+use Rattle.supervision.specs.Trunks.{first_of, placed, covers}
 use Rattle.supervision.proofs.Alike.{resets_alike}
 use Rattle.supervision.proofs.Keeping.{outcome_of}
 use Rattle.supervision.proofs.Masks.{named-slots}

@@ -5,8 +5,7 @@ use Rattle.message.specs.Msg.{Msg, grouped}
 use Rattle.supervision.specs.Laws.{Outcome}
 use Rattle.supervision.specs.Lending.{Lent, Performed, lent}
 use Rattle.supervision.specs.Orders.{groupwise, status_of, ordered}
-use Rattle.supervision.specs.Steps.{covers}
-use Rattle.supervision.specs.Trunks.{first_of}
+use Rattle.supervision.specs.Trunks.{first_of, covers}
 use Rattle.supervision.proofs.Alike.{group_order}
 use Rattle.supervision.proofs.Allowing.{groupwise_allowed}
 use Rattle.supervision.proofs.Grouping.{group_answer}
