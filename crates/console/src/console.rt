@@ -11,7 +11,6 @@ use status::Cic;
 use std::alloc::{AllocError, Global};
 use supervision::{MOST_SYSTEMS, OCTETS, SLOTS, Trunk, WORDS};
 
-
 // An open trunk with its policy.
 #[derive(Clone, Copy)]
 struct OpenTrunk {

@@ -19,7 +19,8 @@ use wording::{Answer, Report};
 
 // Whether a line has nothing but spaces.
 fn is_blank(text: &[u8]) -> bool
-    ensures { MatchBool result ((k : ℕ) → k < length text.now → slice_index text.now k ≡ 32) ((k : ℕ) × (k < length text.now) × (slice_index text.now k ≢ 32)) }
+    ensures { MatchBool result ((k : ℕ) → k < length text.now → slice_index text.now k ≡ 32)
+        ((k : ℕ) × (k < length text.now) × (slice_index text.now k ≢ 32)) }
 {
     text.iter().all(|byte| *byte == b' ')
 }

@@ -10,7 +10,8 @@ use status::Cic;
 fn number(word: &[u8], radix: u32) -> Option<u64>
     requires low { 2 ≤ radix }
     requires high { radix ≤ 36 }
-    ensures { SomeIff result (IsNumeral radix word.now × (digits_value radix word.now < 2 ^ 64)) (digits_value radix word.now) }
+    ensures { SomeIff result (IsNumeral radix word.now × (digits_value radix word.now < 2 ^ 64))
+        (digits_value radix word.now) }
 {
     if word.starts_with(b"+") {
         return None;
@@ -23,28 +24,32 @@ fn number(word: &[u8], radix: u32) -> Option<u64>
 
 // A decimal number below 2^64.
 pub fn decimal(word: &[u8]) -> Option<u64>
-    ensures { SomeIff result (IsNumeral 10 word.now × (digits_value 10 word.now < 2 ^ 64)) (digits_value 10 word.now) }
+    ensures { SomeIff result (IsNumeral 10 word.now × (digits_value 10 word.now < 2 ^ 64))
+        (digits_value 10 word.now) }
 {
     number(word, 10)
 }
 
 // A decimal number below 256.
 pub fn decimal_octet(word: &[u8]) -> Option<u8>
-    ensures { SomeIff result (IsNumeral 10 word.now × (digits_value 10 word.now < 2 ^ 8)) (digits_value 10 word.now) }
+    ensures { SomeIff result (IsNumeral 10 word.now × (digits_value 10 word.now < 2 ^ 8))
+        (digits_value 10 word.now) }
 {
     u8::try_from(decimal(word)?).ok()
 }
 
 // A CIC, decimal and below 2^16.
 pub fn decimal_cic(word: &[u8]) -> Option<Cic>
-    ensures { SomeIff result (IsNumeral 10 word.now × (digits_value 10 word.now < 2 ^ 16)) (record { 0 = digits_value 10 word.now }) }
+    ensures { SomeIff result (IsNumeral 10 word.now × (digits_value 10 word.now < 2 ^ 16))
+        (record { 0 = digits_value 10 word.now }) }
 {
     Some(Cic(u16::try_from(decimal(word)?).ok()?))
 }
 
 // A mask or an equipment word: 1 to 8 hexadecimal digits.
 pub fn hex_word(word: &[u8]) -> Option<u32>
-    ensures { SomeIff result (IsNumeral 16 word.now × (length word.now ≤ 8)) (digits_value 16 word.now) }
+    ensures { SomeIff result (IsNumeral 16 word.now × (length word.now ≤ 8))
+        (digits_value 16 word.now) }
 {
     if word.len() > 8 {
         return None;
@@ -54,7 +59,8 @@ pub fn hex_word(word: &[u8]) -> Option<u32>
 
 // An octet of a body: two hexadecimal digits.
 pub fn hex_octet(word: &[u8]) -> Option<u8>
-    ensures { SomeIff result (IsNumeral 16 word.now × (length word.now ≡ 2)) (digits_value 16 word.now) }
+    ensures { SomeIff result (IsNumeral 16 word.now × (length word.now ≡ 2))
+        (digits_value 16 word.now) }
 {
     if word.len() != 2 {
         return None;

@@ -31,7 +31,9 @@ impl From<BlockType> for u8 {
 impl TryFrom<u8> for BlockType {
     type Error = UnknownIndicator;
 
-    ghost try_from_gives = { λ indicator result. MatchResult result (λ why. indicator_of why ≡ indicator) (λ unknown. (1 < indicator) × (unknown.0 ≡ indicator)) };
+    ghost try_from_gives = { λ indicator result.
+        MatchResult result (λ why. indicator_of why ≡ indicator)
+        (λ unknown. (1 < indicator) × (unknown.0 ≡ indicator)) };
 
     fn try_from(indicator: u8) -> Result<BlockType, UnknownIndicator> {
         match indicator {
@@ -143,7 +145,8 @@ impl From<Kind> for u8 {
 impl TryFrom<u8> for Kind {
     type Error = MessageFault;
 
-    ghost try_from_gives = { λ octet result. MatchResult result (λ kind. kind_of octet ≡ Some kind) (λ fault. (kind_of octet ≡ None) × (fault ≡ Unknown octet)) };
+    ghost try_from_gives = { λ octet result. MatchResult result (λ kind. kind_of octet ≡ Some kind)
+        (λ fault. (kind_of octet ≡ None) × (fault ≡ Unknown octet)) };
 
     fn try_from(octet: u8) -> Result<Kind, MessageFault> {
         match octet {

@@ -21,7 +21,8 @@ fn put(
 ) -> Result<usize, MessageFault>
     ensures value { result ≡ written (head.now ++ tail.now) (result_err checked) (length out.old) }
     ensures after { out.new ≡ leaves (head.now ++ tail.now) out.old result }
-    ensures end { IfOk result (λ n. (n ≡ length head.now + length tail.now) × (n ≤ length out.old)) }
+    ensures end { IfOk result
+        (λ n. (n ≡ length head.now + length tail.now) × (n ≤ length out.old)) }
 {
     let end = head.len() + tail.len();
     if out.len() < end {
@@ -40,8 +41,11 @@ fn put_group(
     head: &[u8],
     group: Group<'_>,
 ) -> Result<usize, MessageFault>
-    ensures value { result ≡ written (head.now ++ cleared group.entry.range.0 group.entry.status.now) (result_err checked) (length out.old) }
-    ensures after { out.new ≡ leaves (head.now ++ cleared group.entry.range.0 group.entry.status.now) out.old result }
+    ensures value { result
+        ≡ written (head.now ++ cleared group.entry.range.0 group.entry.status.now)
+        (result_err checked) (length out.old) }
+    ensures after { out.new
+        ≡ leaves (head.now ++ cleared group.entry.range.0 group.entry.status.now) out.old result }
 {
     let end = put(out, checked, head, group.status)?;
     group.range.clear_spare(&mut out[head.len()..end]);
@@ -105,7 +109,9 @@ impl Message<'_> {
 
     // Lays the octets of the message out at the front of `out`.
     fn lay_out(self, out: &mut [u8]) -> Result<usize, MessageFault>
-        ensures value { result ≡ written (encode (meaning self.entry)) (refusal_of (meaning self.entry)) (length out.old) }
+        ensures value { result
+            ≡ written (encode (meaning self.entry)) (refusal_of (meaning self.entry))
+            (length out.old) }
         ensures after { out.new ≡ leaves (encode (meaning self.entry)) out.old result }
     {
         let [low, high] = self.cic().octets();
@@ -136,7 +142,9 @@ impl Message<'_> {
 
 // Writes the message to the front of `out`, and returns how many octets it has.
 pub fn write(message: Message<'_>, out: &mut [u8]) -> Result<usize, MessageFault>
-    ensures value { result ≡ written (encode (meaning message.entry)) (refusal_of (meaning message.entry)) (length out.old) }
+    ensures value { result
+        ≡ written (encode (meaning message.entry)) (refusal_of (meaning message.entry))
+        (length out.old) }
     ensures after { out.new ≡ leaves (encode (meaning message.entry)) out.old result }
     ensures format { Writes (meaning message.entry) out.old result out.new }
 {

@@ -62,7 +62,9 @@ pub enum Word {
 pub fn follow<P: Policy>(policy: &mut P, words: &[Word])
     ensures all { P.Policy.held policy.new ≡ after words.now (P.Policy.held policy.old) }
     ensures obeys { Follows P.Policy.obeys words.now policy.old policy.new }
-    ensures last { (k : ℕ) → k < P.Policy.PLACES → slice_index_or (P.Policy.held policy.new) k false ≡ last_word words.now k (slice_index_or (P.Policy.held policy.old) k false) }
+    ensures last { (k : ℕ) → k < P.Policy.PLACES
+        → slice_index_or (P.Policy.held policy.new) k false
+        ≡ last_word words.now k (slice_index_or (P.Policy.held policy.old) k false) }
 {
     for word in words {
         match *word {

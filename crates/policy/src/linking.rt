@@ -53,7 +53,8 @@ impl Links {
     // Links a place in, if it is not.
     pub(crate) fn offer(&mut self, even: bool, at: usize)
         ensures set { marks self.new.links ≡ slice_set (marks self.old.links) at true }
-        ensures order { (zs : List ℕ) → Ordered even self.old.links zs → Ordered even self.new.links (offered at zs) }
+        ensures order { (zs : List ℕ) → Ordered even self.old.links zs
+            → Ordered even self.new.links (offered at zs) }
     {
         if at < 512 {
             let linked = self.is_linked(at);
@@ -67,7 +68,8 @@ impl Links {
     // Takes a place out, if it is linked in.
     pub(crate) fn withdraw(&mut self, at: usize)
         ensures set { marks self.new.links ≡ slice_set (marks self.old.links) at false }
-        ensures order { (e : Bool) (zs : List ℕ) → Ordered e self.old.links zs → Ordered e self.new.links (withdrawn at zs) }
+        ensures order { (e : Bool) (zs : List ℕ) → Ordered e self.old.links zs
+            → Ordered e self.new.links (withdrawn at zs) }
     {
         if self.is_linked(at) {
             self.remove(at);
@@ -138,8 +140,14 @@ impl Links {
 
     // Puts a place in as the newest of the line that ends at `end`.
     fn append(&mut self, end: usize, at: usize)
-        ensures newer { newers self.new.links ≡ slice_set (slice_set (newers self.old.links) (slice_index (olders self.old.links) end) at) at end }
-        ensures older { olders self.new.links ≡ slice_set (slice_set (olders self.old.links) at (slice_index (olders self.old.links) end)) end at }
+        ensures newer { newers self.new.links
+            ≡ slice_set
+            (slice_set (newers self.old.links) (slice_index (olders self.old.links) end) at) at
+            end }
+        ensures older { olders self.new.links
+            ≡ slice_set
+            (slice_set (olders self.old.links) at (slice_index (olders self.old.links) end)) end
+            at }
         ensures marks { marks self.new.links ≡ marks self.old.links }
     {
         let last = self.at(end).older;
@@ -149,8 +157,12 @@ impl Links {
 
     // Takes a place out, and joins its neighbours.
     fn remove(&mut self, at: usize)
-        ensures newer { newers self.new.links ≡ slice_set (newers self.old.links) (slice_index (olders self.old.links) at) (slice_index (newers self.old.links) at) }
-        ensures older { olders self.new.links ≡ slice_set (olders self.old.links) (slice_index (newers self.old.links) at) (slice_index (olders self.old.links) at) }
+        ensures newer { newers self.new.links
+            ≡ slice_set (newers self.old.links) (slice_index (olders self.old.links) at)
+            (slice_index (newers self.old.links) at) }
+        ensures older { olders self.new.links
+            ≡ slice_set (olders self.old.links) (slice_index (newers self.old.links) at)
+            (slice_index (olders self.old.links) at) }
         ensures marks { marks self.new.links ≡ slice_set (marks self.old.links) at false }
     {
         let Link { older, newer, .. } = self.at(at);

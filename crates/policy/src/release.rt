@@ -47,14 +47,16 @@ impl Policy for ReleaseOrder {
     ghost sized = { λ x. marks-length x.links.links x.links.ok };
 
     fn offer(&mut self, place: Place)
-        ensures set { marks self.new.links.links ≡ slice_set (marks self.old.links.links) place.0 true }
+        ensures set { marks self.new.links.links
+            ≡ slice_set (marks self.old.links.links) place.0 true }
         ensures obeys { Reorders (Word.Offer place) self.old self.new }
     {
         self.links.offer(self.even, place.0);
     }
 
     fn withdraw(&mut self, place: Place)
-        ensures set { marks self.new.links.links ≡ slice_set (marks self.old.links.links) place.0 false }
+        ensures set { marks self.new.links.links
+            ≡ slice_set (marks self.old.links.links) place.0 false }
         ensures obeys { Reorders (Word.Withdraw place) self.old self.new }
     {
         self.links.withdraw(place.0);

@@ -36,8 +36,10 @@ impl Group<'_> {
     // How many circuits have their bit set.
     pub fn count_set(self) -> u32
         ensures value { result ≡ set_bits self.entry.status.now (self.entry.range.0 + 1) }
-        ensures names { (m : ℕ) → result ≡ length (circuits_of m self.entry.range.0 self.entry.status.now) }
-        ensures spare { (xs : List ℕ) → SameBits self.entry.range.0 self.entry.status.now xs → result ≡ set_bits xs (self.entry.range.0 + 1) }
+        ensures names { (m : ℕ)
+            → result ≡ length (circuits_of m self.entry.range.0 self.entry.status.now) }
+        ensures spare { (xs : List ℕ) → SameBits self.entry.range.0 self.entry.status.now xs
+            → result ≡ set_bits xs (self.entry.range.0 + 1) }
     {
         let last = self.range.0 as usize / 8;
         let whole = ones_in(&self.status[..last.min(self.status.len())]) as u32;

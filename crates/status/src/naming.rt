@@ -19,8 +19,10 @@ pub struct Named<'a> {
 impl<'a> Group<'a> {
     // The circuits of the range from `first` on whose bits are set, rising.
     pub fn named(self, first: Cic) -> Named<'a>
-        ensures value { left_named result ≡ circuits_of first.0 self.entry.range.0 self.entry.status.now }
-        ensures spare { (xs : List ℕ) → SameBits self.entry.range.0 self.entry.status.now xs → left_named result ≡ circuits_of first.0 self.entry.range.0 xs }
+        ensures value { left_named result
+            ≡ circuits_of first.0 self.entry.range.0 self.entry.status.now }
+        ensures spare { (xs : List ℕ) → SameBits self.entry.range.0 self.entry.status.now xs
+            → left_named result ≡ circuits_of first.0 self.entry.range.0 xs }
     {
         Named {
             first,
@@ -41,7 +43,8 @@ impl<'a> Group<'a> {
 impl Iterator for Named<'_> {
     type Item = Cic;
 
-    ghost next_gives = { λ s r t. MatchOption r ((left_named s ≡ []) × (t ≡ s)) (λ x. left_named s ≡ x ∷ left_named t) };
+    ghost next_gives = { λ s r t.
+        MatchOption r ((left_named s ≡ []) × (t ≡ s)) (λ x. left_named s ≡ x ∷ left_named t) };
 
     ghost remaining = { λ s. at_most (length (left_named s)) };
 

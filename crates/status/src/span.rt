@@ -26,7 +26,8 @@ impl Range {
     pub fn clear_spare(self, status: &mut [u8])
         ensures after { status.new ≡ cleared self.0 status.old }
         ensures same { SameBits self.0 status.old status.new }
-        ensures spare { length status.old ≡ octets_for self.0 → (k : ℕ) → self.0 < k → bit_at status.new k ≡ 0 }
+        ensures spare { length status.old ≡ octets_for self.0 → (k : ℕ) → self.0 < k
+            → bit_at status.new k ≡ 0 }
     {
         let end = self.0 as usize / 8;
         if end < status.len() {

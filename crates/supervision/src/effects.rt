@@ -25,8 +25,10 @@ use told::Word;
 // Writes a record whole, and offers its place if it opened, or withdraws it if it closed.
 fn put<P: Policy>(place: Place, new: Circuit, circuit: &mut Circuit, policy: &mut P)
     ensures circuit { circuit.new ≡ new }
-    ensures held { P.Policy.held policy.new ≡ settled_at (P.Policy.held policy.old) place.0 (is_open circuit.old) (is_open new) }
-    ensures policy { Follows P.Policy.obeys (word_at place.0 (is_open circuit.old) (is_open new)) policy.old policy.new }
+    ensures held { P.Policy.held policy.new
+        ≡ settled_at (P.Policy.held policy.old) place.0 (is_open circuit.old) (is_open new) }
+    ensures policy { Follows P.Policy.obeys (word_at place.0 (is_open circuit.old) (is_open new))
+        policy.old policy.new }
 {
     let was = circuit.is_open();
     let is = new.is_open();
@@ -67,9 +69,14 @@ fn visit<P: Policy>(
 ) -> usize
     requires { 2 ≤ length words.old }
     ensures circuit { circuit.new ≡ (applied rule circuit.old).circuit }
-    ensures held { P.Policy.held policy.new ≡ settled_at (P.Policy.held policy.old) place.0 (is_open circuit.old) (is_open (applied rule circuit.old).circuit) }
-    ensures policy { Follows P.Policy.obeys (word_at place.0 (is_open circuit.old) (is_open (applied rule circuit.old).circuit)) policy.old policy.new }
-    ensures words { words.new ≡ over (map number_of (told_of cic (applied rule circuit.old))) words.old }
+    ensures held { P.Policy.held policy.new
+        ≡ settled_at (P.Policy.held policy.old) place.0 (is_open circuit.old)
+        (is_open (applied rule circuit.old).circuit) }
+    ensures policy { Follows P.Policy.obeys
+        (word_at place.0 (is_open circuit.old) (is_open (applied rule circuit.old).circuit))
+        policy.old policy.new }
+    ensures words { words.new
+        ≡ over (map number_of (told_of cic (applied rule circuit.old))) words.old }
     ensures count { result ≡ length (told_of cic (applied rule circuit.old)) }
 {
     let change = rule.apply(*circuit);
@@ -83,7 +90,8 @@ fn send(message: Message<'_>, words: &mut [u32], octets: &mut [u8]) -> usize
     requires word { 1 ≤ length words.old }
     requires room { length (encode (meaning message)) ≤ length octets.old }
     requires small { length (encode (meaning message)) < 65536 }
-    ensures words { words.new ≡ over (number_of (Word.Send 0 (length (encode (meaning message.entry)))) ∷ []) words.old }
+    ensures words { words.new
+        ≡ over (number_of (Word.Send 0 (length (encode (meaning message.entry)))) ∷ []) words.old }
     ensures octets { octets.new ≡ over (encode (meaning message.entry)) octets.old }
     ensures count { result ≡ length (encode (meaning message.entry)) }
 {
@@ -106,7 +114,9 @@ fn sweep<P: Policy>(
     requires inside { slots.first.0 + slots.group.range.0 < length table.old }
     requires table { length table.old ≤ places trunk.config }
     requires room { (slots.group.range.0 + 1) * 2 ≤ length words.old }
-    ensures all { Stood trunk.config (where_named (named_by slots.entry) (λ _. applied rule)) table.old (P.Policy.held policy.old) words.old table.new (P.Policy.held policy.new) words.new result }
+    ensures all { Stood trunk.config (where_named (named_by slots.entry) (λ _. applied rule))
+        table.old (P.Policy.held policy.old) words.old table.new (P.Policy.held policy.new)
+        words.new result }
     ensures policy { Tells P.Policy.obeys table.old table.new policy.old policy.new }
     ensures few { result ≤ (slots.entry.group.range.0 + 1) * 2 }
 {
@@ -134,11 +144,15 @@ impl Trunk {
         words: &mut [u32],
         octets: &mut [u8],
     ) -> (usize, usize)
-        requires enough { Suffices self.config P.Policy.PLACES (lent table.old (P.Policy.held policy.old) words.old octets.old) }
+        requires enough { Suffices self.config P.Policy.PLACES
+            (lent table.old (P.Policy.held policy.old) words.old octets.old) }
         requires inside { place.0 < length table.old }
         requires equipped { (placed table.old place.0).equipped ≡ true }
         requires sendable { Sendable (meaning message) }
-        ensures done { Performed self.config (ordered (λ k. nat_eq k place.0) rule (meaning message.entry)) result (lent table.old (P.Policy.held policy.old) words.old octets.old) (lent table.new (P.Policy.held policy.new) words.new octets.new) }
+        ensures done { Performed self.config
+            (ordered (λ k. nat_eq k place.0) rule (meaning message.entry)) result
+            (lent table.old (P.Policy.held policy.old) words.old octets.old)
+            (lent table.new (P.Policy.held policy.new) words.new octets.new) }
         ensures policy { Tells P.Policy.obeys table.old table.new policy.old policy.new }
     {
         let circuit = &mut table[place.0];
@@ -158,11 +172,15 @@ impl Trunk {
         words: &mut [u32],
         octets: &mut [u8],
     ) -> (usize, usize)
-        requires enough { Suffices self.config P.Policy.PLACES (lent table.old (P.Policy.held policy.old) words.old octets.old) }
+        requires enough { Suffices self.config P.Policy.PLACES
+            (lent table.old (P.Policy.held policy.old) words.old octets.old) }
         requires inside { slots.first.0 + slots.group.range.0 < length table.old }
         requires few { slots.group.range.0 < 32 }
         requires sendable { Sendable (meaning message) }
-        ensures done { Performed self.config (ordered (named_by slots.entry) rule (meaning message.entry)) result (lent table.old (P.Policy.held policy.old) words.old octets.old) (lent table.new (P.Policy.held policy.new) words.new octets.new) }
+        ensures done { Performed self.config
+            (ordered (named_by slots.entry) rule (meaning message.entry)) result
+            (lent table.old (P.Policy.held policy.old) words.old octets.old)
+            (lent table.new (P.Policy.held policy.new) words.new octets.new) }
         ensures policy { Tells P.Policy.obeys table.old table.new policy.old policy.new }
     {
         let count = sweep(self, slots, rule, table, policy, words);

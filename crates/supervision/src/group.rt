@@ -47,9 +47,19 @@ impl Trunk {
         words: &mut [u32],
         octets: &mut [u8],
     ) -> Result<(usize, usize), Refusal>
-        requires enough { Suffices self.config P.Policy.PLACES (lent table.old (P.Policy.held policy.old) words.old octets.old) }
-        ensures outcome { Outcome self.config (λ before. groupwise self.config system mask rule (group_message self.config system what why mask) before.table) result (lent table.old (P.Policy.held policy.old) words.old octets.old) (lent table.new (P.Policy.held policy.new) words.new octets.new) }
-        ensures group { GroupLaws self.config system mask rule (groupwise self.config system mask rule (group_message self.config system what why mask) table.old) (lent table.old (P.Policy.held policy.old) words.old octets.old) (lent table.new (P.Policy.held policy.new) words.new octets.new) }
+        requires enough { Suffices self.config P.Policy.PLACES
+            (lent table.old (P.Policy.held policy.old) words.old octets.old) }
+        ensures outcome { Outcome self.config
+            (λ before.
+            groupwise self.config system mask rule
+            (group_message self.config system what why mask) before.table) result
+            (lent table.old (P.Policy.held policy.old) words.old octets.old)
+            (lent table.new (P.Policy.held policy.new) words.new octets.new) }
+        ensures group { GroupLaws self.config system mask rule
+            (groupwise self.config system mask rule (group_message self.config system what why mask)
+            table.old)
+            (lent table.old (P.Policy.held policy.old) words.old octets.old)
+            (lent table.new (P.Policy.held policy.new) words.new octets.new) }
         ensures policy { Tells P.Policy.obeys table.old table.new policy.old policy.new }
     {
         if system >= self.config.systems || mask % 2 == 1 {
@@ -72,9 +82,14 @@ impl Trunk {
         words: &mut [u32],
         octets: &mut [u8],
     ) -> Result<(usize, usize), Refusal>
-        requires enough { Suffices self.config P.Policy.PLACES (lent table.old (P.Policy.held policy.old) words.old octets.old) }
-        ensures outcome { Outcome self.config (λ _. clearing self.config system) result (lent table.old (P.Policy.held policy.old) words.old octets.old) (lent table.new (P.Policy.held policy.new) words.new octets.new) }
-        ensures alike { ResetAlike self.config system (clearing self.config system) (lent table.old (P.Policy.held policy.old) words.old octets.old) (lent table.new (P.Policy.held policy.new) words.new octets.new) }
+        requires enough { Suffices self.config P.Policy.PLACES
+            (lent table.old (P.Policy.held policy.old) words.old octets.old) }
+        ensures outcome { Outcome self.config (λ _. clearing self.config system) result
+            (lent table.old (P.Policy.held policy.old) words.old octets.old)
+            (lent table.new (P.Policy.held policy.new) words.new octets.new) }
+        ensures alike { ResetAlike self.config system (clearing self.config system)
+            (lent table.old (P.Policy.held policy.old) words.old octets.old)
+            (lent table.new (P.Policy.held policy.new) words.new octets.new) }
         ensures policy { Tells P.Policy.obeys table.old table.new policy.old policy.new }
     {
         if system >= self.config.systems {
@@ -101,23 +116,25 @@ impl Trunk {
         octets: &mut [u8],
     ) -> Result<(usize, usize), Refusal>
         requires { F.IsAlwaysCallable rule }
-        ensures outcome { (of : BlockType → Rule) → ((why : BlockType) (r : Rule) → F.post rule why r → r ≡ of why) → Outcome self.config (typed of what self.config P.Policy.PLACES kind system mask) result (lent table.old (P.Policy.held policy.old) words.old octets.old) (lent table.new (P.Policy.held policy.new) words.new octets.new) }
-        ensures group { (of : BlockType → Rule) → ((why : BlockType) (r : Rule) → F.post rule why r → r ≡ of why) → GroupLaws self.config system mask (of (why_of kind)) (typed of what self.config P.Policy.PLACES kind system mask (lent table.old (P.Policy.held policy.old) words.old octets.old)) (lent table.old (P.Policy.held policy.old) words.old octets.old) (lent table.new (P.Policy.held policy.new) words.new octets.new) }
+        ensures outcome { (of : BlockType → Rule)
+            → ((why : BlockType) (r : Rule) → F.post rule why r → r ≡ of why)
+            → Outcome self.config
+            (typed of what self.config P.Policy.PLACES kind system mask) result
+            (lent table.old (P.Policy.held policy.old) words.old octets.old)
+            (lent table.new (P.Policy.held policy.new) words.new octets.new) }
+        ensures group { (of : BlockType → Rule)
+            → ((why : BlockType) (r : Rule) → F.post rule why r → r ≡ of why)
+            → GroupLaws self.config system mask (of (why_of kind))
+            (typed of what self.config P.Policy.PLACES kind system mask
+            (lent table.old (P.Policy.held policy.old) words.old octets.old))
+            (lent table.old (P.Policy.held policy.old) words.old octets.old)
+            (lent table.new (P.Policy.held policy.new) words.new octets.new) }
         ensures policy { Tells P.Policy.obeys table.old table.new policy.old policy.new }
     {
         self.admit(table, policy, words, octets)?;
         let why = type_of(kind, mask)?;
-        self.order_group(
-            system,
-            mask,
-            rule(why),
-            what,
-            why,
-            table,
-            policy,
-            words,
-            octets,
-        )
+        let rule = rule(why);
+        self.order_group(system, mask, rule, what, why, table, policy, words, octets)
     }
 
     // Blocks the circuits of a mask: type 0 for maintenance, 1 for hardware, which ends their calls.
@@ -131,8 +148,15 @@ impl Trunk {
         words: &mut [u32],
         octets: &mut [u8],
     ) -> Result<(usize, usize), Refusal>
-        ensures outcome { Outcome self.config (group_blocking self.config P.Policy.PLACES kind system mask) result (lent table.old (P.Policy.held policy.old) words.old octets.old) (lent table.new (P.Policy.held policy.new) words.new octets.new) }
-        ensures group { GroupLaws self.config system mask (Rule.Block (why_of kind)) (group_blocking self.config P.Policy.PLACES kind system mask (lent table.old (P.Policy.held policy.old) words.old octets.old)) (lent table.old (P.Policy.held policy.old) words.old octets.old) (lent table.new (P.Policy.held policy.new) words.new octets.new) }
+        ensures outcome { Outcome self.config
+            (group_blocking self.config P.Policy.PLACES kind system mask) result
+            (lent table.old (P.Policy.held policy.old) words.old octets.old)
+            (lent table.new (P.Policy.held policy.new) words.new octets.new) }
+        ensures group { GroupLaws self.config system mask (Rule.Block (why_of kind))
+            (group_blocking self.config P.Policy.PLACES kind system mask
+            (lent table.old (P.Policy.held policy.old) words.old octets.old))
+            (lent table.old (P.Policy.held policy.old) words.old octets.old)
+            (lent table.new (P.Policy.held policy.new) words.new octets.new) }
         ensures policy { Tells P.Policy.obeys table.old table.new policy.old policy.new }
     {
         self.order_typed(
@@ -159,8 +183,15 @@ impl Trunk {
         words: &mut [u32],
         octets: &mut [u8],
     ) -> Result<(usize, usize), Refusal>
-        ensures outcome { Outcome self.config (group_unblocking self.config P.Policy.PLACES kind system mask) result (lent table.old (P.Policy.held policy.old) words.old octets.old) (lent table.new (P.Policy.held policy.new) words.new octets.new) }
-        ensures group { GroupLaws self.config system mask (Rule.Unblock (why_of kind)) (group_unblocking self.config P.Policy.PLACES kind system mask (lent table.old (P.Policy.held policy.old) words.old octets.old)) (lent table.old (P.Policy.held policy.old) words.old octets.old) (lent table.new (P.Policy.held policy.new) words.new octets.new) }
+        ensures outcome { Outcome self.config
+            (group_unblocking self.config P.Policy.PLACES kind system mask) result
+            (lent table.old (P.Policy.held policy.old) words.old octets.old)
+            (lent table.new (P.Policy.held policy.new) words.new octets.new) }
+        ensures group { GroupLaws self.config system mask (Rule.Unblock (why_of kind))
+            (group_unblocking self.config P.Policy.PLACES kind system mask
+            (lent table.old (P.Policy.held policy.old) words.old octets.old))
+            (lent table.old (P.Policy.held policy.old) words.old octets.old)
+            (lent table.new (P.Policy.held policy.new) words.new octets.new) }
         ensures policy { Tells P.Policy.obeys table.old table.new policy.old policy.new }
     {
         self.order_typed(
@@ -185,8 +216,15 @@ impl Trunk {
         words: &mut [u32],
         octets: &mut [u8],
     ) -> Result<(usize, usize), Refusal>
-        ensures outcome { Outcome self.config (group_resetting self.config P.Policy.PLACES system) result (lent table.old (P.Policy.held policy.old) words.old octets.old) (lent table.new (P.Policy.held policy.new) words.new octets.new) }
-        ensures alike { ResetAlike self.config system (group_resetting self.config P.Policy.PLACES system (lent table.old (P.Policy.held policy.old) words.old octets.old)) (lent table.old (P.Policy.held policy.old) words.old octets.old) (lent table.new (P.Policy.held policy.new) words.new octets.new) }
+        ensures outcome { Outcome self.config (group_resetting self.config P.Policy.PLACES system)
+            result
+            (lent table.old (P.Policy.held policy.old) words.old octets.old)
+            (lent table.new (P.Policy.held policy.new) words.new octets.new) }
+        ensures alike { ResetAlike self.config system
+            (group_resetting self.config P.Policy.PLACES system
+            (lent table.old (P.Policy.held policy.old) words.old octets.old))
+            (lent table.old (P.Policy.held policy.old) words.old octets.old)
+            (lent table.new (P.Policy.held policy.new) words.new octets.new) }
         ensures policy { Tells P.Policy.obeys table.old table.new policy.old policy.new }
     {
         self.admit(table, policy, words, octets)?;

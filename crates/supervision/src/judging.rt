@@ -28,8 +28,12 @@ impl Trunk {
         words: &[u32],
         octets: &[u8],
     ) -> Result<(), Refusal>
-        ensures value { result ≡ admitted self.config P.Policy.PLACES (lent table.now (P.Policy.held policy.now) words.now octets.now) }
-        ensures enough { OnOk result (Suffices self.config P.Policy.PLACES (lent table.now (P.Policy.held policy.now) words.now octets.now)) }
+        ensures value { result
+            ≡ admitted self.config P.Policy.PLACES
+            (lent table.now (P.Policy.held policy.now) words.now octets.now) }
+        ensures enough { OnOk result
+            (Suffices self.config P.Policy.PLACES
+            (lent table.now (P.Policy.held policy.now) words.now octets.now)) }
     {
         if P::PLACES < table.len() {
             return Err(Refusal::Places);
@@ -43,8 +47,13 @@ impl Trunk {
     // The place of a circuit that an order may name.
     pub(crate) fn find(self, cic: Cic, rule: Rule, table: &[Circuit]) -> Result<Place, Refusal>
         requires { length table.now ≡ places self.config }
-        ensures value { result ≡ unless (not (circuit_of self.config cic table.now).equipped) Address (unless (not (allows rule (circuit_of self.config cic table.now))) State (Ok (record { 0 = cic.0 - self.config.first.0 }))) }
-        ensures found { IfOk result (λ p. (self.config.first.0 ≤ cic.0) × (p.0 < length table.now) × ((placed table.now p.0).equipped ≡ true)) }
+        ensures value { result
+            ≡ unless (not (circuit_of self.config cic table.now).equipped) Address
+            (unless (not (allows rule (circuit_of self.config cic table.now))) State
+            (Ok (record { 0 = cic.0 - self.config.first.0 }))) }
+        ensures found { IfOk result
+            (λ p. (self.config.first.0 ≤ cic.0) × (p.0 < length table.now)
+            × ((placed table.now p.0).equipped ≡ true)) }
     {
         let place = self.place(cic).ok_or(Refusal::Address)?;
         let circuit = table[place.0];

@@ -26,7 +26,9 @@ fn are_equipment(equipment: &[u32]) -> bool
 // Whether these are the numbers of a trunk.
 fn fits_trunk(first: Cic, equipment: &[u32], places: usize) -> bool
     ensures value { result ≡ fits_trunk first.0 equipment.now places }
-    ensures fits { result ≡ true → (first.0 % 32 ≡ 0) × (1 ≤ length equipment.now) × (length equipment.now ≤ 16) × (first.0 + length equipment.now * 32 ≤ 4096) × (places ≡ length equipment.now * 32) }
+    ensures fits { result ≡ true
+        → (first.0 % 32 ≡ 0) × (1 ≤ length equipment.now) × (length equipment.now ≤ 16)
+        × (first.0 + length equipment.now * 32 ≤ 4096) × (places ≡ length equipment.now * 32) }
 {
     let systems = equipment.len();
     first.0 as usize % SLOTS == 0
@@ -82,9 +84,12 @@ impl Trunk {
         table: &mut [Circuit],
         policy: &mut P,
     ) -> Result<Trunk, Refusal>
-        ensures value { config_of result ≡ opening P.Policy.PLACES first equipment.now higher (length table.old) }
-        ensures after { OpenedIf (config_of result) P.Policy.PLACES equipment.now table.old (P.Policy.held policy.old) table.new (P.Policy.held policy.new) }
-        ensures policy { TellsOpen P.Policy.obeys (config_of result) P.Policy.PLACES equipment.now policy.old policy.new }
+        ensures value { config_of result
+            ≡ opening P.Policy.PLACES first equipment.now higher (length table.old) }
+        ensures after { OpenedIf (config_of result) P.Policy.PLACES equipment.now table.old
+            (P.Policy.held policy.old) table.new (P.Policy.held policy.new) }
+        ensures policy { TellsOpen P.Policy.obeys (config_of result) P.Policy.PLACES equipment.now
+            policy.old policy.new }
         ensures laws { OpenLaws (config_of result) table.new (P.Policy.held policy.new) }
     {
         if !fits_trunk(first, equipment, table.len()) {

@@ -16,8 +16,10 @@ use refusal::Refusal;
 // The place of the policy's choice, which has to be open.
 fn pick<P: Policy>(table: &[Circuit], policy: &mut P) -> Result<Place, Refusal>
     ensures same { P.Policy.held policy.new ≡ P.Policy.held policy.old }
-    ensures value { (choice : Maybe ChosenPlace) × Chosen (P.Policy.held policy.old) choice × P.Policy.picks choice policy.old policy.new × (result ≡ seizable choice table.now) }
-    ensures found { IfOk result (λ p. (p.0 < length table.now) × (is_open (placed table.now p.0) ≡ true)) }
+    ensures value { (choice : Maybe ChosenPlace) × Chosen (P.Policy.held policy.old) choice
+        × P.Policy.picks choice policy.old policy.new × (result ≡ seizable choice table.now) }
+    ensures found { IfOk result
+        (λ p. (p.0 < length table.now) × (is_open (placed table.now p.0) ≡ true)) }
 {
     let place = policy.choose().ok_or(Refusal::NoneOpen)?;
     if !table.get(place.0).is_some_and(|circuit| circuit.is_open()) {
@@ -36,7 +38,9 @@ impl Trunk {
         words: &mut [u32],
         octets: &mut [u8],
     ) -> Result<(usize, usize), Refusal>
-        ensures { Seized P.Policy.picks P.Policy.obeys self.config P.Policy.PLACES body.now result (lent table.old (P.Policy.held policy.old) words.old octets.old) (lent table.new (P.Policy.held policy.new) words.new octets.new) policy.old policy.new }
+        ensures { Seized P.Policy.picks P.Policy.obeys self.config P.Policy.PLACES body.now result
+            (lent table.old (P.Policy.held policy.old) words.old octets.old)
+            (lent table.new (P.Policy.held policy.new) words.new octets.new) policy.old policy.new }
     {
         self.admit(table, policy, words, octets)?;
         if !(1..=256).contains(&body.len()) {

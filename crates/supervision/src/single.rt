@@ -29,10 +29,14 @@ impl Trunk {
         words: &mut [u32],
         octets: &mut [u8],
     ) -> Result<(usize, usize), Refusal>
-        requires enough { Suffices self.config P.Policy.PLACES (lent table.old (P.Policy.held policy.old) words.old octets.old) }
+        requires enough { Suffices self.config P.Policy.PLACES
+            (lent table.old (P.Policy.held policy.old) words.old octets.old) }
         requires writable { cic.0 < 4096 → refusal_of (meaning message) ≡ None }
         requires short { length (encode (meaning message)) ≤ 320 }
-        ensures outcome { Outcome self.config (λ before. singly self.config cic rule (meaning message.entry) before.table) result (lent table.old (P.Policy.held policy.old) words.old octets.old) (lent table.new (P.Policy.held policy.new) words.new octets.new) }
+        ensures outcome { Outcome self.config
+            (λ before. singly self.config cic rule (meaning message.entry) before.table) result
+            (lent table.old (P.Policy.held policy.old) words.old octets.old)
+            (lent table.new (P.Policy.held policy.new) words.new octets.new) }
         ensures policy { Tells P.Policy.obeys table.old table.new policy.old policy.new }
     {
         let place = self.find(cic, rule, table)?;
@@ -50,7 +54,11 @@ impl Trunk {
         words: &mut [u32],
         octets: &mut [u8],
     ) -> Result<(usize, usize), Refusal>
-        ensures outcome { Outcome self.config (λ before. and_then (admitted self.config P.Policy.PLACES before) (λ _. singly self.config cic rule (single cic.0 kind) before.table)) result (lent table.old (P.Policy.held policy.old) words.old octets.old) (lent table.new (P.Policy.held policy.new) words.new octets.new) }
+        ensures outcome { Outcome self.config
+            (λ before. and_then (admitted self.config P.Policy.PLACES before)
+            (λ _. singly self.config cic rule (single cic.0 kind) before.table)) result
+            (lent table.old (P.Policy.held policy.old) words.old octets.old)
+            (lent table.new (P.Policy.held policy.new) words.new octets.new) }
         ensures policy { Tells P.Policy.obeys table.old table.new policy.old policy.new }
     {
         self.admit(table, policy, words, octets)?;
@@ -69,7 +77,10 @@ impl Trunk {
         words: &mut [u32],
         octets: &mut [u8],
     ) -> Result<(usize, usize), Refusal>
-        ensures outcome { Outcome self.config (releasing self.config P.Policy.PLACES cic location value) result (lent table.old (P.Policy.held policy.old) words.old octets.old) (lent table.new (P.Policy.held policy.new) words.new octets.new) }
+        ensures outcome { Outcome self.config
+            (releasing self.config P.Policy.PLACES cic location value) result
+            (lent table.old (P.Policy.held policy.old) words.old octets.old)
+            (lent table.new (P.Policy.held policy.new) words.new octets.new) }
         ensures policy { Tells P.Policy.obeys table.old table.new policy.old policy.new }
     {
         self.admit(table, policy, words, octets)?;
@@ -89,7 +100,9 @@ impl Trunk {
         words: &mut [u32],
         octets: &mut [u8],
     ) -> Result<(usize, usize), Refusal>
-        ensures outcome { Outcome self.config (blocking self.config P.Policy.PLACES cic) result (lent table.old (P.Policy.held policy.old) words.old octets.old) (lent table.new (P.Policy.held policy.new) words.new octets.new) }
+        ensures outcome { Outcome self.config (blocking self.config P.Policy.PLACES cic) result
+            (lent table.old (P.Policy.held policy.old) words.old octets.old)
+            (lent table.new (P.Policy.held policy.new) words.new octets.new) }
         ensures policy { Tells P.Policy.obeys table.old table.new policy.old policy.new }
     {
         let rule = Rule::Block(BlockType::Maintenance);
@@ -105,7 +118,9 @@ impl Trunk {
         words: &mut [u32],
         octets: &mut [u8],
     ) -> Result<(usize, usize), Refusal>
-        ensures outcome { Outcome self.config (unblocking self.config P.Policy.PLACES cic) result (lent table.old (P.Policy.held policy.old) words.old octets.old) (lent table.new (P.Policy.held policy.new) words.new octets.new) }
+        ensures outcome { Outcome self.config (unblocking self.config P.Policy.PLACES cic) result
+            (lent table.old (P.Policy.held policy.old) words.old octets.old)
+            (lent table.new (P.Policy.held policy.new) words.new octets.new) }
         ensures policy { Tells P.Policy.obeys table.old table.new policy.old policy.new }
     {
         let rule = Rule::Unblock(BlockType::Maintenance);
@@ -121,7 +136,9 @@ impl Trunk {
         words: &mut [u32],
         octets: &mut [u8],
     ) -> Result<(usize, usize), Refusal>
-        ensures outcome { Outcome self.config (resetting self.config P.Policy.PLACES cic) result (lent table.old (P.Policy.held policy.old) words.old octets.old) (lent table.new (P.Policy.held policy.new) words.new octets.new) }
+        ensures outcome { Outcome self.config (resetting self.config P.Policy.PLACES cic) result
+            (lent table.old (P.Policy.held policy.old) words.old octets.old)
+            (lent table.new (P.Policy.held policy.new) words.new octets.new) }
         ensures policy { Tells P.Policy.obeys table.old table.new policy.old policy.new }
     {
         let rule = Rule::Reset(Reset::Single);

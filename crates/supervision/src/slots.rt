@@ -31,7 +31,8 @@ impl Slots<'_> {
     fn all<F: Fn(Circuit) -> bool>(self, passes: F, table: &[Circuit]) -> bool
         requires callable { F.IsAlwaysCallable passes }
         requires inside { self.first.0 + self.group.range.0 < length table.now }
-        ensures { (p : Circuit → Bool) → ((c : Circuit) (r : Bool) → F.post passes c r → r ≡ p c) → result ≡ not (some_from (λ k c. named_by self.entry k && not (p c)) 0 table.now) }
+        ensures { (p : Circuit → Bool) → ((c : Circuit) (r : Bool) → F.post passes c r → r ≡ p c)
+            → result ≡ not (some_from (λ k c. named_by self.entry k && not (p c)) 0 table.now) }
     {
         table[self.first.0..=self.first.0 + self.group.range.0 as usize]
             .iter()
@@ -42,7 +43,11 @@ impl Slots<'_> {
     // Whether an order may name them.
     pub(crate) fn judge(self, rule: Rule, table: &[Circuit]) -> Result<(), Refusal>
         requires { self.first.0 + self.group.range.0 < length table.now }
-        ensures { result ≡ unless (some_from (λ k c. named_by self.entry k && not c.equipped) 0 table.now) Address (unless (some_from (λ k c. named_by self.entry k && not (allows rule c)) 0 table.now) State (Ok tt)) }
+        ensures { result
+            ≡ unless (some_from (λ k c. named_by self.entry k && not c.equipped) 0 table.now)
+            Address
+            (unless (some_from (λ k c. named_by self.entry k && not (allows rule c)) 0 table.now)
+            State (Ok tt)) }
     {
         if !self.all(|circuit| circuit.equipped, table) {
             return Err(Refusal::Address);

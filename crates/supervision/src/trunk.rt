@@ -25,7 +25,8 @@ pub struct Config {
 pub struct Trunk {
     pub(crate) config: Config,
     // it starts at a PCM system, has 1 to 16 of them, and no CIC passes 4,095
-    ghost ok: { (config.first.0 % 32 ≡ 0) × (1 ≤ config.systems) × (config.systems ≤ 16) × (config.first.0 + config.systems * 32 ≤ 4096) },
+    ghost ok: { (config.first.0 % 32 ≡ 0) × (1 ≤ config.systems) × (config.systems ≤ 16)
+        × (config.first.0 + config.systems * 32 ≤ 4096) },
 }
 
 impl Trunk {

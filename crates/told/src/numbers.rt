@@ -107,7 +107,8 @@ fn circuit_word(kind: u32, field: u32, cic: Cic) -> u32
 }
 
 impl From<Word> for u32 {
-    ghost from_gives = { λ word number. (number ≡ number_of word) × (Fits word → word_of number ≡ Some word) };
+    ghost from_gives = { λ word number.
+        (number ≡ number_of word) × (Fits word → word_of number ≡ Some word) };
 
     // Of a place and a CIC the low twelve bits are told.
     fn from(word: Word) -> u32 {
