@@ -342,8 +342,6 @@ class Console:
         if arguments[2] not in (b"low", b"high", b"release"):
             raise NotUnderstood
         equipment = [hex32(word) for word in arguments[3:]]
-        if len(equipment) > 64:
-            raise NotUnderstood
         self.trunk = Trunk(first, arguments[1] == b"higher", arguments[2], equipment)
         return ok([], [])
 
