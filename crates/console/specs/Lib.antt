@@ -1,2 +1,2 @@
-pub mod Selections
 pub mod Opened
+pub mod Selections

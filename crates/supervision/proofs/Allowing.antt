@@ -39,11 +39,11 @@ at_place t cic T e = go (leb t.first.0 cic.0) e
 pub singly_allowed : (t : Config) (cic : Cic) (rule : Rule) (msg : Msg) (T : List Circuit) (m : Move) → singly t cic rule msg T ≡ Ok m → Allowed m T
 singly_allowed t cic rule msg T m h =
     let c = circuit_of t cic T in
-    let a = past (not c.equipped) Address _ m h in
-    let b = past (not (allows rule c)) State _ m a.1 in
-    let at = at_place t cic T (not-false c.equipped a.0) in
-    let may : allows rule (placed T (cic.0 - t.first.0)) ≡ true = rw (← at) (not-false (allows rule c) b.0) in
-    subst (λ (x : Move). Allowed x T) (same_move (ordered (only t cic) rule msg) m b.1)
+    let found = past (not c.equipped) Address _ m h in
+    let fit = past (not (allows rule c)) State _ m found.1 in
+    let at = at_place t cic T (not-false c.equipped found.0) in
+    let may : allows rule (placed T (cic.0 - t.first.0)) ≡ true = rw (← at) (not-false (allows rule c) fit.0) in
+    subst (λ (x : Move). Allowed x T) (same_move (ordered (only t cic) rule msg) m fit.1)
     (λ k n e. let q : k ≡ cic.0 - t.first.0 = eqb-true k (cic.0 - t.first.0) n in
     order_keeps rule (placed T k) (rw q may))
 
@@ -57,15 +57,15 @@ pub accepted : (t : Config) (system mask : ℕ) (rule : Rule) (msg : Msg) (T : L
     → (m ≡ ordered (slots system mask) rule msg) × (eqb (mask % 2) 1 ≡ false)
     × ((k : ℕ) → slots system mask k ≡ true → k < length T → ((placed T k).equipped ≡ true) × (allows rule (placed T k) ≡ true))
 accepted t system mask rule msg T m h =
-    let a = past (leb t.systems system) Address _ m h in
-    let b = past (eqb (mask % 2) 1) Address _ m a.1 in
+    let inside = past (leb t.systems system) Address _ m h in
+    let even = past (eqb (mask % 2) 1) Address _ m inside.1 in
     let p = λ (k : ℕ) (c : Circuit). slots system mask k && not c.equipped in
-    let d = past (some_from p 0 T) Address _ m b.1 in
+    let found = past (some_from p 0 T) Address _ m even.1 in
     let q = λ (k : ℕ) (c : Circuit). slots system mask k && not (allows rule c) in
-    let f = past (some_from q 0 T) State _ m d.1 in (
-      sym (same_move (ordered (slots system mask) rule msg) m f.1),
-      b.0,
-      λ k n l. (past_both (slots system mask k) (placed T k).equipped (none_at p T k l d.0) n, past_both (slots system mask k) (allows rule (placed T k)) (none_at q T k l f.0) n),
+    let fit = past (some_from q 0 T) State _ m found.1 in (
+      sym (same_move (ordered (slots system mask) rule msg) m fit.1),
+      even.0,
+      λ k n l. (past_both (slots system mask k) (placed T k).equipped (none_at p T k l found.0) n, past_both (slots system mask k) (allows rule (placed T k)) (none_at q T k l fit.0) n),
     )
 
 -- so an order for circuits of a PCM system may name each of them

@@ -54,8 +54,8 @@ one_allowed t c rule sent T m h e =
 
 range_allowed : (t : Config) (c r : ℕ) (s : List ℕ) (x : Move) (T : List Circuit) (m : Move) → Allowed x T → to_range t c r s x T ≡ Ok m → Allowed m T
 range_allowed t c r s x T m h e =
-    let a = past (not (is_range t c r)) Address _ m e in
-    same_allowed x m T (past (some_from (λ k y. marked t c r s k && not y.equipped) 0 T) Address _ m a.1).1 h
+    let inside = past (not (is_range t c r)) Address _ m e in
+    same_allowed x m T (past (some_from (λ k y. marked t c r s k && not y.equipped) 0 T) Address _ m inside.1).1 h
 
 choose_allowed : (b : Bool) (x y : Move) (T : List Circuit) → Allowed x T → Allowed y T → Allowed (cond b x y) T
 choose_allowed true x y T h g = h
@@ -153,8 +153,8 @@ after_admission t room before x m e = go (ltb room (length before.table)) _ refl
 
 pub received_lawful : (t : Config) (octets : List ℕ) (before : Lent) (m : Move) → receiving t (length before.held) octets before ≡ Ok m → Lawful t m before (carried t m before)
 received_lawful t octets before m e =
-    let a = after_admission t (length before.held) before (and_then (raised (decode octets)) (λ x. heard t x before.table)) m e in
-    go (decode octets) a.0 a.1
+    let enough = after_admission t (length before.held) before (and_then (raised (decode octets)) (λ x. heard t x before.table)) m e in
+    go (decode octets) enough.0 enough.1
   where
     go : (d : Result Msg MessageFault) → length before.table ≤ length before.held → and_then (raised d) (λ x. heard t x before.table) ≡ Ok m → Lawful t m before (carried t m before)
     go (Err f) l h = let z : ◌≡◌ {A = ℕ} 0 1 = cc in absurd (omega arith)
@@ -162,8 +162,8 @@ received_lawful t octets before m e =
 
 pub expired_lawful : (t : Config) (timer at kind : ℕ) (before : Lent) (m : Move) → expiring t (length before.held) timer at kind before ≡ Ok m → Lawful t m before (carried t m before)
 expired_lawful t timer at kind before m e =
-    let a = after_admission t (length before.held) before (and_then (timed (timer_of timer)) (λ x. expired t x at kind before.table)) m e in
-    go (timer_of timer) a.0 a.1
+    let enough = after_admission t (length before.held) before (and_then (timed (timer_of timer)) (λ x. expired t x at kind before.table)) m e in
+    go (timer_of timer) enough.0 enough.1
   where
     go : (d : Option Timer) → length before.table ≤ length before.held → and_then (timed d) (λ x. expired t x at kind before.table) ≡ Ok m → Lawful t m before (carried t m before)
     go None l h = let z : ◌≡◌ {A = ℕ} 0 1 = cc in absurd (omega arith)

@@ -51,7 +51,7 @@ fn fill(equipment: &[u32], table: &mut [Circuit])
     }
 }
 
-// Withdraws every member; the number counted is the place itself.
+// Withdraws every place that the policy takes, and so every member.
 fn withdraw_all<P: Policy>(policy: &mut P)
     ensures none { (k : ℕ) → slice_index_or (P.Policy.held policy.new) k false ≡ false }
     ensures policy { Follows P.Policy.obeys (withdrawals P.Policy.PLACES) policy.old policy.new }

@@ -11,7 +11,7 @@ pub loop-place-preserved : goal.loop-place-preserved
 loop-place-preserved g c =
     let n = c.loop-place.place in
     let word = λ (k : ℕ). Withdraw (record { 0 = k }) in (
-      λ k l. grind (arith, common_steps, c.withdraw.ensures.set, c.loop-place.invariant.0),
+      λ k l. grind (arith, common_steps),
       rw (map-range_with_len_more word 0 n n (zero-add n))
           (follows_append g.P.Policy.obeys (withdrawals n) (word n ∷ []) c.args.policy.now c.loop-place.policy c.withdraw.new.self
           c.loop-place.invariant.1 (c.withdraw.new.self, c.withdraw.ensures.obeys, refl)),

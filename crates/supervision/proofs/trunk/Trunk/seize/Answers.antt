@@ -17,8 +17,7 @@ returns-in_err-place g c =
     let body = c.args.body.now in
     let T = c.args.table.now in
     let before = lent T (g.P.Policy.held c.args.policy.now) c.args.words.now c.args.octets.now in
-    let size : (ltb (length body) 1 || ltb 256 (length body)) ≡ false = grind (arith, nat_tests, c.contains.ensures, c.if-not-contains.false) in
-    let may = may_seize t g.P.Policy.PLACES body before c.in_ok-admit.ensures.value size in
+    let may = may_seize t g.P.Policy.PLACES body before c.in_ok-admit.ensures.value (grind (arith, nat_tests, c.contains.ensures, c.if-not-contains.false)) in
     let v = c.pick.ensures.value in
     let p = err_from_is_err_and c.from_residual-in_err-place.result c.from_residual-in_err-place.ensures.1 in
     rw (may, c.pick.ensures.same)
@@ -31,8 +30,7 @@ returns g c =
     let body = c.args.body.now in
     let before = lent c.args.table.now (g.P.Policy.held c.args.policy.now) c.args.words.now c.args.octets.now in
     let after = lent c.perform_at.new.table (g.P.Policy.held c.perform_at.new.policy) c.perform_at.new.words c.perform_at.new.octets in
-    let size : (ltb (length body) 1 || ltb 256 (length body)) ≡ false = grind (arith, nat_tests, c.contains.ensures, c.if-not-contains.false) in
-    let may = may_seize t g.P.Policy.PLACES body before c.in_ok-admit.ensures.value size in
+    let may = may_seize t g.P.Policy.PLACES body before c.in_ok-admit.ensures.value (grind (arith, nat_tests, c.contains.ensures, c.if-not-contains.false)) in
     let v = c.in_ok-place.ensures.value in
     rw may
     (seizure_accepted g.P.Policy.picks g.P.Policy.obeys t body v.0 c.in_ok-place.place c.perform_at.result before after c.args.policy.now c.pick.new.policy c.perform_at.new.policy v.1 v.2 c.perform_at.ensures.policy v.3
