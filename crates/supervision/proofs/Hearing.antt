@@ -31,7 +31,7 @@ use Rattle.supervision.specs.Groups.{mask_by, group_for}
 use Rattle.supervision.specs.Laws.{Lawful}
 use Rattle.supervision.specs.Lending.{Lent, carried}
 use Rattle.supervision.specs.Moves.{Move, some_from}
-use Rattle.supervision.specs.Orders.{admitted, circuit_of, only, why_of}
+use Rattle.supervision.specs.Orders.{admitted, circuit_of, only, why_of, release_message}
 use Rattle.supervision.specs.Receiving.{as_cic, moving, nothing, to_one, is_range, in_range, marked, to_range, is_counted, heard, receiving}
 use Rattle.refusal.specs.Refusals.{raised, unless, and_then}
 use Rattle.supervision.specs.Trunks.{controls, first_of, placed}
@@ -123,7 +123,7 @@ reset_repeated t system alert T m e =
     system_allowed t system (eqb (mask_by p system T) 0) (repeating sent alert) T m (still sent alert T) e
 
 expired_allowed : (t : Config) (timer : Timer) (at kind : ℕ) (T : List Circuit) (m : Move) → expired t timer at kind T ≡ Ok m → Allowed m T
-expired_allowed t T1 at kind T m e = one_repeated t at (λ x. is_releasing x.call) (λ x. release at (x.cause.location ∷ x.cause.value ∷ [])) None T m e
+expired_allowed t T1 at kind T m e = one_repeated t at (λ x. is_releasing x.call) (λ x. release_message at x.cause) None T m e
 expired_allowed t T5 at kind T m e =
     repeat_allowed t at (is_releasing (circuit_of t (as_cic at) T).call)
     (record { named = only t (as_cic at); rule = λ _. on_reset reset.Single; sent = single at Rsc ∷ []; alert = alert_at T5 at }) T m

@@ -1,7 +1,7 @@
 -- What the rules answer to an expiry: a message still waited for is repeated.
 use Rattle.std.specs.Prelude.{ℕ, Bool, false, cond, not, ◌&&◌, List, [], ◌∷◌, Some, None, Ok, Err, Option, Result, ◌==◌, nat_le, nat_lt}
 use Rattle.status.specs.declared.circuit.Cic.{Cic}
-use Rattle.message.specs.Msg.{Msg, single, release}
+use Rattle.message.specs.Msg.{Msg, single}
 use Rattle.message.specs.declared.kinds.BlockType.{BlockType}
 use Rattle.message.specs.declared.kinds.BlockType.TheVariants.{Maintenance}
 use Rattle.message.specs.declared.kinds.Grouped.{Grouped}
@@ -21,7 +21,7 @@ use Rattle.supervision.specs.declared.trunk.Config.{Config}
 use Rattle.supervision.specs.Groups.{mask_by, group_for}
 use Rattle.supervision.specs.Lending.{Lent}
 use Rattle.supervision.specs.Moves.{Move}
-use Rattle.supervision.specs.Orders.{admitted, circuit_of, only, why_of, reset_message}
+use Rattle.supervision.specs.Orders.{admitted, circuit_of, only, why_of, release_message, reset_message}
 use Rattle.supervision.specs.Receiving.{as_cic, nothing}
 use Rattle.refusal.specs.Refusals.{unless, and_then}
 use Rattle.supervision.specs.Trunks.{first_of}
@@ -73,7 +73,7 @@ abbrev pub lifting_for : BlockType → Circuit → Bool
 lifting_for why x = is_lifting (block_of why x.local)
 
 abbrev pub expired : Config → Timer → ℕ → ℕ → List Circuit → Result Move Refusal
-expired t T1 at kind table = repeats_one t at (λ x. is_releasing x.call) (λ x. release at (x.cause.location ∷ x.cause.value ∷ [])) None table
+expired t T1 at kind table = repeats_one t at (λ x. is_releasing x.call) (λ x. release_message at x.cause) None table
 expired t T5 at kind table = gives_up t at table
 expired t T12 at kind table = repeats_one t at (asked_for Maintenance) (λ _. single at Blo) None table
 expired t T13 at kind table = repeats_one t at (asked_for Maintenance) (λ _. single at Blo) (alert_at T13 at) table

@@ -64,11 +64,15 @@ abbrev pub cause_of : ℕ → ℕ → Result Cause Refusal
 cause_of location value =
     unless (nat_lt 15 location || nat_lt 127 value) Argument (Ok (record { location = 0x80 + location; value = 0x80 + value }))
 
+-- our release, with the two octets of its cause
+abbrev pub release_message : ℕ → Cause → Msg
+release_message c cause = release c (cause.location ∷ cause.value ∷ [])
+
 abbrev pub releasing : Config → ℕ → Cic → ℕ → ℕ → Lent → Result Move Refusal
 releasing t room cic location value lent =
     and_then (admitted t room lent)
     (λ _. and_then (cause_of location value)
-    (λ cause. singly t cic (Release cause) (release cic.0 (cause.location ∷ cause.value ∷ [])) lent.table))
+    (λ cause. singly t cic (Release cause) (release_message cic.0 cause) lent.table))
 
 -- the time slots of a PCM system whose mask bits are set
 abbrev pub slots : ℕ → ℕ → ℕ → Bool

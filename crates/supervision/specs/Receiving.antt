@@ -10,7 +10,7 @@ use Rattle.message.specs.declared.kinds.Grouped.TheVariants.{Cgb, Cgu, Cgba, Cgu
 use Rattle.message.specs.declared.kinds.Single.TheVariants.{Rsc, Blo, Ubl, Bla, Uba}
 use Rattle.circuit.specs.Changes.{quiet}
 use Rattle.circuit.specs.Circuits.{block_of, is_connected, is_none, is_single, is_standing}
-use Rattle.circuit.specs.Signals.{on_iam, on_progress, on_rel, on_rlc, on_far_block, on_far_unblock, on_block_ack, on_unblock_ack, on_rsc, on_grs, on_gra}
+use Rattle.circuit.specs.Signals.{on_iam, on_progress, on_rel, on_rlc, on_far_block, on_far_unblock, on_block_ack, on_unblock_ack, on_rsc, on_grs, on_gra, unexpected}
 use Rattle.circuit.specs.declared.record.Circuit.{Circuit}
 use Rattle.circuit.specs.declared.rules.Change.{Change}
 use Rattle.refusal.specs.declared.reasons.Refusal.{Refusal}
@@ -19,7 +19,7 @@ use Rattle.supervision.specs.declared.trunk.Config.{Config}
 use Rattle.supervision.specs.Groups.{groups, group_for, status_by}
 use Rattle.supervision.specs.Lending.{Lent}
 use Rattle.supervision.specs.Moves.{Move, some_from}
-use Rattle.supervision.specs.Orders.{admitted, circuit_of, only, why_of}
+use Rattle.supervision.specs.Orders.{admitted, circuit_of, only, why_of, release_message}
 use Rattle.refusal.specs.Refusals.{raised, unless, and_then}
 use Rattle.supervision.specs.Trunks.{places, controls, covers}
 
@@ -67,7 +67,7 @@ to_range t c r s m table =
 abbrev pub ask_again : Config → ℕ → List Circuit → List Msg
 ask_again t c table = group_for t Cgb Hardware (λ k x. only t (as_cic c) k && is_standing x.local.hardware) ((c - t.first.0) / 32) table
 
--- a group reset is answered where our maintenance block is asked or set
+-- our maintenance block shows in the answer to a group reset where it is asked or set
 abbrev pub shows : Circuit → Bool
 shows x = x.equipped && is_standing x.local.maintenance
 
@@ -87,7 +87,7 @@ heard t (single c Uba) table = to_one t c (on_unblock_ack Maintenance) (λ x. if
 heard t (single c Rsc) table =
     to_one t c on_rsc (λ x. if_so (is_standing x.local.maintenance) (single c Blo) ++ (ask_again t c table ++ (release_complete c ∷ []))) table
 heard t (release_complete c) table =
-    to_one t c on_rlc (λ x. if_so (is_unexpected x) (release c (0x87 ∷ 0x9f ∷ []))) table
+    to_one t c on_rlc (λ x. if_so (is_unexpected x) (release_message c unexpected)) table
 heard t (release c cause) table = to_one t c on_rel (λ _. release_complete c ∷ []) table
 heard t (call c Iam body) table = to_one t c (on_iam (controls t (as_cic c))) (λ _. []) table
 heard t (call c Acm body) table = to_one t c on_progress (λ _. []) table
