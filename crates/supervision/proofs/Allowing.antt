@@ -1,5 +1,5 @@
 -- What an accepted order says of the circuits that it names.
-use Rattle.std.proofs.Common.{◌≡◌, ℕ, ◌-◌, ◌%◌, ◌<◌, ◌≤◌, Bool, true, false, cond, not, ◌&&◌, eqb, leb, List, length, Ok, Result, sym, refl, ap, ◌∙◌, subst, ⊎_elim, arith}
+use Rattle.std.proofs.Common.{◌≡◌, ℕ, ◌-◌, ◌%◌, ◌<◌, ◌≤◌, Bool, true, false, cond, not, ◌&&◌, eqb, leb, List, length, Ok, Err, Result, sym, refl, ap, ◌∙◌, subst, ⊎_elim, arith}
 use Rattle.std.proofs.lemmas.List.{get_or_past}
 use Rattle.std.proofs.lemmas.Bool.{eqb-true, false≢true, not-false, cases_lt}
 use Rattle.status.specs.declared.circuit.Cic.{Cic}
@@ -15,7 +15,7 @@ use Rattle.supervision.specs.declared.trunk.Config.{Config}
 use Rattle.supervision.specs.Trunks.{placed}
 use Rattle.supervision.specs.Moves.{Move, some_from}
 use Rattle.supervision.specs.Orders.{circuit_of, ordered, only, singly, slots, groupwise}
-use Rattle.refusal.specs.Refusals.{unless}
+use Rattle.refusal.specs.Refusals.{unless, and_then}
 use Rattle.supervision.proofs.Keeping.{Allowed}
 use Rattle.supervision.proofs.Some.{none_at}
 
@@ -23,6 +23,11 @@ use Rattle.supervision.proofs.Some.{none_at}
 pub past : {X : Type 0} (b : Bool) (e : Refusal) (x : Result X Refusal) (m : X) → unless b e x ≡ Ok m → (b ≡ false) × (x ≡ Ok m)
 past true e x m h = let z : ◌≡◌ {A = ℕ} 0 1 = cc in absurd (omega arith)
 past false e x m h = (refl, h)
+
+-- each part is accepted
+pub and_ok : {X Y : Type 0} (r : Result X Refusal) (f : X → Result Y Refusal) (y : Y) → and_then r f ≡ Ok y → (x : X) × (r ≡ Ok x) × (f x ≡ Ok y)
+and_ok (Err e) f y h = let z : ◌≡◌ {A = ℕ} 0 1 = cc in absurd (omega arith)
+and_ok (Ok x) f y h = (x, refl, h)
 
 pub same_move : (m n : Move) → ◌≡◌ {A = Result Move Refusal} (Ok m) (Ok n) → m ≡ n
 same_move m n e = cc

@@ -12,30 +12,30 @@ use Rattle.message.specs.declared.kinds.CallKind.TheVariants.{Iam, Acm, Con, Anm
 use Rattle.message.specs.declared.kinds.Grouped.{Grouped}
 use Rattle.message.specs.declared.kinds.Grouped.TheVariants.{Cgb, Cgu, Cgba, Cgua}
 use Rattle.message.specs.declared.kinds.Single.TheVariants.{Rsc, Blo, Ubl, Bla, Uba}
-use Rattle.circuit.proofs.Keeping.{iam_keeps, progress_keeps, rel_keeps, rlc_keeps, far_block_keeps, far_unblock_keeps, block_ack_keeps, unblock_ack_keeps, rsc_keeps, grs_keeps, gra_keeps, reset_keeps}
+use Rattle.circuit.proofs.Keeping.{iam_keeps, progress_keeps, rel_keeps, rlc_keeps, far_block_keeps, far_unblock_keeps, block_ack_keeps, unblock_ack_keeps, rsc_keeps, grs_keeps, gra_keeps}
 use Rattle.circuit.specs.Circuits.{is_releasing, is_single, is_group}
 use Rattle.circuit.specs.Laws.{Keeps}
-use Rattle.circuit.specs.Orders.{on_reset}
 use Rattle.told.specs.Words.{timer_of}
 use Rattle.circuit.specs.Signals.{on_gra}
 use Rattle.circuit.specs.declared.record.Circuit.{Circuit}
 use Rattle.circuit.specs.declared.record.Reset.TheVariants as reset
 use Rattle.circuit.specs.declared.rules.Change.{Change}
+use Rattle.circuit.specs.declared.rules.Rule.TheVariants.{Reset}
 use Rattle.told.specs.declared.kinds.Timer.{Timer}
 use Rattle.told.specs.declared.kinds.Timer.TheVariants.{T1, T5, T12, T13, T14, T15, T16, T17, T18, T19, T20, T21, T22, T23}
 use Rattle.refusal.specs.declared.reasons.Refusal.{Refusal}
 use Rattle.refusal.specs.declared.reasons.Refusal.TheVariants.{Address, Argument, Places, Buffers}
 use Rattle.supervision.specs.declared.trunk.Config.{Config}
-use Rattle.supervision.specs.Expiring.{repeating, repeats_one, repeats_group, repeats_reset, asked_for, lifting_for, alert_at, expired, timed, expiring}
+use Rattle.supervision.specs.Expiring.{repeating, repeats_one, repeats_group, repeats_reset, asked_for, lifting_for, alert_at, alerting, gives_up, expired, timed, expiring}
 use Rattle.supervision.specs.Groups.{mask_by, group_for}
 use Rattle.supervision.specs.Laws.{Lawful}
 use Rattle.supervision.specs.Lending.{Lent, carried}
 use Rattle.supervision.specs.Moves.{Move, some_from}
-use Rattle.supervision.specs.Orders.{admitted, circuit_of, only, why_of, release_message}
+use Rattle.supervision.specs.Orders.{admitted, circuit_of, only, singly, why_of, release_message}
 use Rattle.supervision.specs.Receiving.{as_cic, moving, nothing, to_one, is_range, in_range, marked, to_range, is_counted, heard, receiving}
 use Rattle.refusal.specs.Refusals.{raised, unless, and_then}
 use Rattle.supervision.specs.Trunks.{controls, first_of, placed}
-use Rattle.supervision.proofs.Allowing.{past, same_move}
+use Rattle.supervision.proofs.Allowing.{past, same_move, and_ok, singly_allowed}
 use Rattle.supervision.proofs.Keeping.{Allowed, lawful, quiet_keeps}
 
 -- a move that changes nothing
@@ -61,7 +61,7 @@ choose_allowed : (b : Bool) (x y : Move) (T : List Circuit) → Allowed x T → 
 choose_allowed true x y T h g = h
 choose_allowed false x y T h g = g
 
-heard_allowed : (t : Config) (msg : Msg) (T : List Circuit) (m : Move) → heard t msg T ≡ Ok m → Allowed m T
+pub heard_allowed : (t : Config) (msg : Msg) (T : List Circuit) (m : Move) → heard t msg T ≡ Ok m → Allowed m T
 heard_allowed t (single c Blo) T m e = one_allowed t c _ _ T m (far_block_keeps Maintenance) e
 heard_allowed t (single c Ubl) T m e = one_allowed t c _ _ T m (far_unblock_keeps Maintenance) e
 heard_allowed t (single c Bla) T m e = one_allowed t c _ _ T m (block_ack_keeps Maintenance) e
@@ -122,12 +122,22 @@ reset_repeated t system alert T m e =
     let sent = group_reset (first_of t system) 30 ∷ [] in
     system_allowed t system (eqb (mask_by p system T) 0) (repeating sent alert) T m (still sent alert T) e
 
-expired_allowed : (t : Config) (timer : Timer) (at kind : ℕ) (T : List Circuit) (m : Move) → expired t timer at kind T ≡ Ok m → Allowed m T
+-- T5 resets a releasing circuit
+given_up : (t : Config) (c : ℕ) (T : List Circuit) (m : Move) → gives_up t c T ≡ Ok m → Allowed m T
+given_up t c T m e =
+    go (is_releasing (circuit_of t (as_cic c) T).call)
+    (past (not (circuit_of t (as_cic c) T).equipped) Address _ m e).1
+  where
+    go : (b : Bool) → cond b (and_then (singly t (as_cic c) (Reset reset.Single) (single c Rsc) T) (λ x. Ok (alerting (alert_at T5 c) x))) (Ok nothing) ≡ Ok m → Allowed m T
+    go false h = same_allowed nothing m T h (nothing_allowed T)
+    go true h =
+        let x = and_ok (singly t (as_cic c) (Reset reset.Single) (single c Rsc) T) (λ x. Ok (alerting (alert_at T5 c) x)) m h in
+        same_allowed (alerting (alert_at T5 c) x.0) m T x.2
+        (singly_allowed t (as_cic c) (Reset reset.Single) (single c Rsc) T x.0 x.1)
+
+pub expired_allowed : (t : Config) (timer : Timer) (at kind : ℕ) (T : List Circuit) (m : Move) → expired t timer at kind T ≡ Ok m → Allowed m T
 expired_allowed t T1 at kind T m e = one_repeated t at (λ x. is_releasing x.call) (λ x. release_message at x.cause) None T m e
-expired_allowed t T5 at kind T m e =
-    repeat_allowed t at (is_releasing (circuit_of t (as_cic at) T).call)
-    (record { named = only t (as_cic at); rule = λ _. on_reset reset.Single; sent = single at Rsc ∷ []; alert = alert_at T5 at }) T m
-    (λ k n q. reset_keeps reset.Single (placed T k)) e
+expired_allowed t T5 at kind T m e = given_up t at T m e
 expired_allowed t T12 at kind T m e = one_repeated t at (asked_for Maintenance) (λ _. single at Blo) None T m e
 expired_allowed t T13 at kind T m e = one_repeated t at (asked_for Maintenance) (λ _. single at Blo) (alert_at T13 at) T m e
 expired_allowed t T14 at kind T m e = one_repeated t at (lifting_for Maintenance) (λ _. single at Ubl) None T m e
@@ -142,7 +152,7 @@ expired_allowed t T22 at kind T m e = reset_repeated t at None T m e
 expired_allowed t T23 at kind T m e = reset_repeated t at (alert_at T23 (first_of t at)) T m e
 
 -- after the tests that every operation makes
-after_admission : (t : Config) (room : ℕ) (before : Lent) (x : Result Move Refusal) (m : Move) → and_then (admitted t room before) (λ _. x) ≡ Ok m
+pub after_admission : (t : Config) (room : ℕ) (before : Lent) (x : Result Move Refusal) (m : Move) → and_then (admitted t room before) (λ _. x) ≡ Ok m
     → (length before.table ≤ room) × (x ≡ Ok m)
 after_admission t room before x m e = go (ltb room (length before.table)) _ refl e
   where

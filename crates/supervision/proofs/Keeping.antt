@@ -64,7 +64,7 @@ about_more : (b : Bool) (w : Word) (ws us vs : List Word) → ws ≡ us ++ vs �
 about_more true w ws us vs e = rw e refl
 about_more false w ws us vs e = e
 
-about-append : (n : ℕ) (xs ys : List Word) → about n (xs ++ ys) ≡ about n xs ++ about n ys
+pub about-append : (n : ℕ) (xs ys : List Word) → about n (xs ++ ys) ≡ about n xs ++ about n ys
 about-append n [] ys = refl
 about-append n (Send p l ∷ xs) ys = about-append n xs ys
 about-append n (Begun w c ∷ xs) ys = about_more (eqb c.0 n) (Begun w c) (about n (xs ++ ys)) (about n xs) (about n ys) (about-append n xs ys)

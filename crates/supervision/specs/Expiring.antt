@@ -9,10 +9,10 @@ use Rattle.message.specs.declared.kinds.Grouped.TheVariants.{Cgb, Cgu}
 use Rattle.message.specs.declared.kinds.Single.TheVariants.{Rsc, Blo, Ubl}
 use Rattle.circuit.specs.Changes.{quiet}
 use Rattle.circuit.specs.Circuits.{block_of, is_asked, is_group, is_lifting, is_releasing, is_single}
-use Rattle.circuit.specs.Orders.{on_reset}
 use Rattle.told.specs.Words.{timer_of}
 use Rattle.circuit.specs.declared.record.Circuit.{Circuit}
 use Rattle.circuit.specs.declared.record.Reset.TheVariants as reset
+use Rattle.circuit.specs.declared.rules.Rule.TheVariants.{Reset}
 use Rattle.told.specs.declared.kinds.Timer.{Timer}
 use Rattle.told.specs.declared.kinds.Timer.TheVariants.{T1, T5, T12, T13, T14, T15, T16, T17, T18, T19, T20, T21, T22, T23}
 use Rattle.refusal.specs.declared.reasons.Refusal.{Refusal}
@@ -21,7 +21,7 @@ use Rattle.supervision.specs.declared.trunk.Config.{Config}
 use Rattle.supervision.specs.Groups.{mask_by, group_for}
 use Rattle.supervision.specs.Lending.{Lent}
 use Rattle.supervision.specs.Moves.{Move}
-use Rattle.supervision.specs.Orders.{admitted, circuit_of, only, why_of, release_message, reset_message}
+use Rattle.supervision.specs.Orders.{admitted, circuit_of, singly, why_of, release_message, reset_message}
 use Rattle.supervision.specs.Receiving.{as_cic, nothing}
 use Rattle.refusal.specs.Refusals.{unless, and_then}
 use Rattle.supervision.specs.Trunks.{first_of}
@@ -30,26 +30,27 @@ use Rattle.supervision.specs.Trunks.{first_of}
 abbrev pub repeating : List Msg → Option (Timer × Cic) → Move
 repeating sent alert = record { named = λ _. false; rule = λ _. quiet; sent = sent; alert = alert }
 
--- a move for one circuit, where something is waited for there
-abbrev pub for_one : Config → ℕ → (Circuit → Bool) → (Circuit → Move) → List Circuit → Result Move Refusal
-for_one t c waits move table =
-    unless (not (circuit_of t (as_cic c) table).equipped) Address
-    (Ok (cond (waits (circuit_of t (as_cic c) table)) (move (circuit_of t (as_cic c) table)) nothing))
-
 -- its message, where it is still waited for
 abbrev pub repeats_one : Config → ℕ → (Circuit → Bool) → (Circuit → Msg) → Option (Timer × Cic) → List Circuit → Result Move Refusal
-repeats_one t c waits message alert table = for_one t c waits (λ x. repeating (message x ∷ []) alert) table
+repeats_one t c waits message alert table =
+    unless (not (circuit_of t (as_cic c) table).equipped) Address
+    (Ok (cond (waits (circuit_of t (as_cic c) table)) (repeating (message (circuit_of t (as_cic c) table) ∷ []) alert) nothing))
 
 -- the alert of the second timer of a pair: for a circuit, and for a PCM system by the CIC of its time slot 1
 abbrev pub alert_at : Timer → ℕ → Option (Timer × Cic)
 alert_at timer c = Some (timer, as_cic c)
 
--- T5 on a releasing circuit does a circuit reset and alerts
+-- the alert is told beside what a move does
+abbrev pub alerting : Option (Timer × Cic) → Move → Move
+alerting alert m = record m { alert = alert }
+
+-- T5 on a releasing circuit does a circuit reset, where that may be ordered, and alerts
 abbrev pub gives_up : Config → ℕ → List Circuit → Result Move Refusal
 gives_up t c table =
-    for_one t c (λ x. is_releasing x.call)
-    (λ _. record { named = only t (as_cic c); rule = λ _. on_reset reset.Single; sent = single c Rsc ∷ []; alert = alert_at T5 c })
-    table
+    unless (not (circuit_of t (as_cic c) table).equipped) Address
+    (cond (is_releasing (circuit_of t (as_cic c) table).call)
+    (and_then (singly t (as_cic c) (Reset reset.Single) (single c Rsc) table) (λ m. Ok (alerting (alert_at T5 c) m)))
+    (Ok nothing))
 
 -- a group message, naming the circuits of the PCM system that wait
 abbrev pub repeats_group : Config → ℕ → ℕ → Grouped → (BlockType → Circuit → Bool) → Option (Timer × Cic) → List Circuit → Result Move Refusal

@@ -1,3 +1,4 @@
+pub mod Answering
 pub mod Expiring
 pub mod Groups
 pub mod Laws
