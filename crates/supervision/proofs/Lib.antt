@@ -1,6 +1,8 @@
 pub mod Alike
 pub mod Allowing
+pub mod Bits
 pub mod Choosing
+pub mod Concerned
 pub mod Finishing
 pub mod Fresh
 pub mod Grouping
