@@ -10,6 +10,8 @@ use Rattle.circuit.specs.declared.record.Reset.TheVariants as reset
 use Rattle.circuit.specs.declared.record.Cause.{Cause}
 use Rattle.circuit.specs.declared.record.Circuit.{Circuit}
 use Rattle.circuit.specs.declared.rules.Change.{Change}
+use Rattle.circuit.specs.declared.signals.Signal.{Signal}
+use Rattle.circuit.specs.declared.signals.Signal.TheVariants as signal
 use Rattle.told.specs.declared.kinds.Direction.TheVariants.{Incoming}
 use Rattle.told.specs.declared.kinds.EndCause.TheVariants as end
 use Rattle.circuit.specs.Circuits.{is_none, is_set, is_waiting, is_calling, is_connected, is_group, is_single, block_of, with_block, no_far}
@@ -103,3 +105,17 @@ on_grs c = ending end.Reset (with_fars no_far (with_locals (with_block Hardware 
 -- GRA: a group reset that waits ends, and the status bit becomes the far maintenance block
 abbrev pub on_gra : Bool → Circuit → Change
 on_gra bit c = cond (is_group c.reset) (quiet (with_reset reset.None (with_fars (with_block Maintenance bit c.far) c))) (quiet c)
+
+-- a message as a circuit that it names sees it
+abbrev pub on_signal : Signal → Circuit → Change
+on_signal (signal.Iam control) c = on_iam control c
+on_signal signal.Progress c = on_progress c
+on_signal signal.Rel c = on_rel c
+on_signal signal.Rlc c = on_rlc c
+on_signal (signal.Block why) c = on_far_block why c
+on_signal (signal.Unblock why) c = on_far_unblock why c
+on_signal (signal.BlockAck why) c = on_block_ack why c
+on_signal (signal.UnblockAck why) c = on_unblock_ack why c
+on_signal signal.Rsc c = on_rsc c
+on_signal signal.Grs c = on_grs c
+on_signal (signal.Gra bit) c = on_gra bit c

@@ -1,6 +1,6 @@
 // What is kept of each circuit.
 ghost use Rattle.std.specs.Prelude.{◌≡◌, [], ◌∷◌};
-ghost use Rattle.circuit.specs.Circuits.{is_idle, is_connected, is_none, is_waiting, is_group, block_of, with_block, fresh, is_open};
+ghost use Rattle.circuit.specs.Circuits.{is_idle, is_connected, is_none, is_standing, is_waiting, is_group, block_of, with_block, fresh, is_open};
 
 use message::BlockType;
 use std::fmt;
@@ -59,6 +59,14 @@ pub struct Cause {
     pub value: u8,
 }
 
+impl Cause {
+    // Of a release that answers an RLC which nothing waited for.
+    pub const UNEXPECTED: Cause = Cause {
+        location: 0x87,
+        value: 0x9f,
+    };
+}
+
 // The octets as they are sent.
 impl From<Cause> for [u8; 2] {
     ghost from_gives = { λ cause octets. octets ≡ cause.location ∷ cause.value ∷ [] };
@@ -99,6 +107,13 @@ impl LocalBlock {
         ensures { result ≡ is_none self }
     {
         self == LocalBlock::None
+    }
+
+    // Whether it is asked or set.
+    pub fn is_standing(self) -> bool
+        ensures { result ≡ is_standing self }
+    {
+        matches!(self, LocalBlock::Asked | LocalBlock::Set)
     }
 }
 

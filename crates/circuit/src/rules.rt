@@ -1,10 +1,11 @@
-// What the orders of our side do to one circuit.
+// What orders and messages do to one circuit.
 ghost use Rattle.std.specs.Prelude.{◌≡◌, true};
 ghost use Rattle.circuit.specs.Changes.{quiet, ending, under_block};
 ghost use Rattle.circuit.specs.Laws.{Keeps, allows};
 ghost use Rattle.circuit.specs.Orders.{on_seize, on_release, on_block, on_unblock, on_reset, applied};
 
 use crate::record::{Call, Cause, Circuit, FarBlocks, LocalBlock, LocalBlocks, Reset};
+use crate::signals::Signal;
 use message::BlockType;
 use told::{Direction, EndCause};
 
@@ -17,7 +18,7 @@ pub struct Change {
     pub begun: Option<Direction>,
 }
 
-// What an order does to each circuit that it names.
+// What an order or a message does to each circuit that it names.
 #[derive(Clone, Copy)]
 pub enum Rule {
     Seize,
@@ -26,11 +27,12 @@ pub enum Rule {
     Unblock(BlockType),
     // the reset that waits then, which is never none
     Reset(Reset),
+    Signal(Signal),
 }
 
 impl Change {
     // Nothing is told of the call.
-    fn quiet(circuit: Circuit) -> Change
+    pub(crate) fn quiet(circuit: Circuit) -> Change
         ensures { result ≡ quiet circuit }
     {
         Change {
@@ -41,7 +43,7 @@ impl Change {
     }
 
     // The call is ended, and the end is told unless it was idle.
-    fn ending(cause: EndCause, circuit: Circuit) -> Change
+    pub(crate) fn ending(cause: EndCause, circuit: Circuit) -> Change
         ensures { result ≡ ending cause circuit }
     {
         let engaged = !circuit.call.is_idle();
@@ -55,7 +57,7 @@ impl Change {
     }
 
     // What a block does to the call: one for hardware ends it, one for maintenance lets it go on.
-    fn under_block(why: BlockType, circuit: Circuit) -> Change
+    pub(crate) fn under_block(why: BlockType, circuit: Circuit) -> Change
         ensures { result ≡ under_block why circuit }
     {
         match why {
@@ -131,7 +133,7 @@ impl Rule {
             Rule::Block(_) | Rule::Unblock(_) => !circuit.reset.is_waiting(),
             Rule::Reset(Reset::None) => false,
             Rule::Reset(Reset::Single) => !circuit.reset.is_group(),
-            Rule::Reset(Reset::Group) => true,
+            Rule::Reset(Reset::Group) | Rule::Signal(_) => true,
         }
     }
 
@@ -146,6 +148,7 @@ impl Rule {
             Rule::Block(why) => circuit.blocked(why),
             Rule::Unblock(why) => circuit.unblocked(why),
             Rule::Reset(reset) => circuit.cleared(reset),
+            Rule::Signal(signal) => signal.apply(circuit),
         }
     }
 }
