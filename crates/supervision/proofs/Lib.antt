@@ -3,6 +3,7 @@ pub mod Allowing
 pub mod Bits
 pub mod Choosing
 pub mod Concerned
+pub mod Extending
 pub mod Finishing
 pub mod Fresh
 pub mod Grouping
@@ -14,5 +15,6 @@ pub mod Passing
 pub mod Settling
 pub mod Some
 pub mod Stepping
+pub mod Touching
 pub mod Turning
 pub mod Writing

@@ -40,6 +40,10 @@ pub more_at : {X : Type 0} (out xs w : List X) (n : ℕ) → length out ≡ n �
     → take n (over out w) ++ over xs (drop n (over out w)) ≡ over (out ++ xs) w
 more_at out xs w n e l = rw (← e) (over_more out xs w (omega arith))
 
+-- how long the part from a on is
+pub rest_length : {X : Type 0} (a : ℕ) (w : List X) → length (take (length w - a) (drop a w)) ≡ length w - a
+rest_length a w = length-take-le (length w - a) (drop a w) (omega (arith, length-drop a w))
+
 -- in the part from a on
 pub part_at : {X : Type 0} (a : ℕ) (xs w ys : List X) → a ≤ length w → ys ≡ over xs (take (length w - a) (drop a w))
     → put_mid a (length w - a) w ys ≡ take a w ++ over xs (drop a w)

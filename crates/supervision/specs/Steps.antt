@@ -1,12 +1,18 @@
 -- The steps that the code takes, one place at a time.
-use Rattle.std.specs.Prelude.{◌≡◌, ℕ, Bool, true, false, List, map, length, slice_set}
+use Rattle.std.specs.Prelude.{◌≡◌, ℕ, ◌-◌, Bool, true, false, ◌&&◌, List, ◌++◌, map, length, None, slice_set, nat_le}
+use Rattle.status.specs.Bits.{is_named, set_bits}
+use Rattle.message.specs.Msg.{Msg}
 use Rattle.told.specs.Words.{number_of}
+use Rattle.circuit.specs.Orders.{applied}
+use Rattle.circuit.specs.Signals.{on_gra}
 use Rattle.circuit.specs.declared.record.Circuit.{Circuit}
 use Rattle.circuit.specs.declared.rules.Change.{Change}
+use Rattle.supervision.specs.declared.slots.Effect.{Effect}
+use Rattle.supervision.specs.declared.slots.Effect.TheVariants.{Marked, Every, Acknowledged}
 use Rattle.supervision.specs.declared.slots.Slots.{Slots}
 use Rattle.supervision.specs.declared.trunk.Config.{Config}
-use Rattle.supervision.specs.Lending.{over, settled}
-use Rattle.supervision.specs.Moves.{each_from, told_from}
+use Rattle.supervision.specs.Lending.{Lent, Performed, lent, over, settled}
+use Rattle.supervision.specs.Moves.{Move, each_from, told_from}
 use Rattle.supervision.specs.Trunks.{covers}
 
 -- the set after the circuit at the place k went from open or not to open or not
@@ -27,3 +33,35 @@ Stood t f T H W table held words n =
     × (held ≡ settled H T (each_from f 0 T))
     × (words ≡ over (map number_of (told_from t f 0 T)) W)
     × (n ≡ length (told_from t f 0 T))
+
+-- the places of the range of slots
+abbrev pub spanned : Slots → ℕ → Bool
+spanned slots k = nat_le slots.first.0 k && nat_le (k - slots.first.0) slots.group.range.0
+
+-- the places where an effect does something
+abbrev pub touched : Effect → Slots → ℕ → Bool
+touched (Marked rule) slots = named_by slots
+touched (Every rule) slots = spanned slots
+touched Acknowledged slots = spanned slots
+
+-- what it does there
+abbrev pub rule_by : Effect → Slots → ℕ → Circuit → Change
+rule_by (Marked rule) slots k = applied rule
+rule_by (Every rule) slots k = applied rule
+rule_by Acknowledged slots k = on_gra (is_named slots.group.range.0 slots.group.status.now (k - slots.first.0))
+
+-- how many of the first n circuits of the range that are
+abbrev pub tally : Effect → Slots → ℕ → ℕ
+tally (Marked rule) slots n = set_bits slots.group.status.now n
+tally (Every rule) slots n = n
+tally Acknowledged slots n = n
+
+-- a move that sends these messages too
+abbrev pub sending : List Msg → Move → Move
+sending ms m = record m { sent = m.sent ++ ms }
+
+-- where a move without an alert was done, what was written of it is now what is written of more
+abbrev pub Extends : (Move → Move) → ℕ × ℕ → List ℕ → List ℕ → ℕ × ℕ → List ℕ → List ℕ → Type 0
+Extends more n words octets n' words' octets' =
+    (t : Config) (m : Move) (before : Lent) (table : List Circuit) (held : List Bool) → m.alert ≡ None
+    → Performed t m n before (lent table held words octets) → Performed t (more m) n' before (lent table held words' octets')

@@ -1,20 +1,21 @@
 // All that an accepted operation writes.
-ghost use Rattle.std.specs.Prelude.{◌≡◌, ◌+◌, ◌*◌, ◌<◌, ◌≤◌, true, ◌∷◌, [], map, length, None, nat_eq};
+ghost use Rattle.std.specs.Prelude.{◌≡◌, ℕ, ◌+◌, ◌*◌, ◌<◌, ◌≤◌, true, List, ◌∷◌, [], map, length, None, nat_eq};
 ghost use Rattle.message.specs.Encode.{encode, refusal_of};
 ghost use Rattle.message.specs.Meaning.{meaning};
 ghost use Rattle.circuit.specs.Circuits.{is_open};
 ghost use Rattle.circuit.specs.Laws.{told_of};
 ghost use Rattle.circuit.specs.Orders.{applied};
 ghost use Rattle.policy.specs.Sets.{Follows};
+ghost use Rattle.status.specs.Bits.{set_bits};
 ghost use Rattle.told.specs.Words.{number_of};
 ghost use Rattle.supervision.specs.Lending.{Performed, Sendable, Suffices, lent, over};
-ghost use Rattle.supervision.specs.Moves.{where_named};
 ghost use Rattle.supervision.specs.Orders.{ordered};
-ghost use Rattle.supervision.specs.Steps.{settled_at, named_by, Stood};
+ghost use Rattle.supervision.specs.Receiving.{moving};
+ghost use Rattle.supervision.specs.Steps.{settled_at, named_by, touched, rule_by, tally, sending, Extends};
 ghost use Rattle.supervision.specs.Telling.{word_at, Tells};
 ghost use Rattle.supervision.specs.Trunks.{places, cic_at, placed};
 
-use crate::slots::Slots;
+use crate::slots::{Effect, Slots};
 use crate::trunk::Trunk;
 use circuit::{Change, Circuit, Rule};
 use message::{Message, write};
@@ -84,46 +85,58 @@ fn visit<P: Policy>(
     tell(cic, change, words)
 }
 
-// Writes a message to the octets, and tells the send in one word; how many octets it has.
-fn send(message: Message<'_>, words: &mut [u32], octets: &mut [u8]) -> usize
+// Writes one message more, and tells the send; how many words and octets are written then.
+pub(crate) fn send(
+    message: Message<'_>,
+    written: (usize, usize),
+    words: &mut [u32],
+    octets: &mut [u8],
+) -> (usize, usize)
     requires writable { refusal_of (meaning message) ≡ None }
-    requires word { 1 ≤ length words.old }
-    requires room { length (encode (meaning message)) ≤ length octets.old }
-    requires small { length (encode (meaning message)) < 65536 }
-    ensures words { words.new
-        ≡ over (number_of (Word.Send 0 (length (encode (meaning message.entry)))) ∷ []) words.old }
-    ensures octets { octets.new ≡ over (encode (meaning message.entry)) octets.old }
-    ensures count { result ≡ length (encode (meaning message.entry)) }
+    requires word { written.0 < length words.old }
+    requires room { written.1 + length (encode (meaning message)) ≤ length octets.old }
+    requires place { written.1 < 4096 }
+    requires short { length (encode (meaning message)) < 65536 }
+    ensures sends { Extends (sending (meaning message.entry ∷ [])) written words.old octets.old
+        result words.new octets.new }
+    ensures told { result.0 ≡ written.0 + 1 }
+    ensures sent { result.1 ≡ written.1 + length (encode (meaning message.entry)) }
+    ensures words { length words.new ≡ length words.old }
+    ensures octets { length octets.new ≡ length octets.old }
 {
-    let Ok(length) = write(message, octets) else {
+    let (told, sent) = written;
+    let Ok(length) = write(message, &mut octets[sent..]) else {
         unreachable()
     };
-    words[0] = u32::from(Word::Send(0, length as u16));
-    length
+    words[told] = u32::from(Word::Send(sent as u16, length as u16));
+    (told + 1, sent + length)
 }
 
-// Does the rule at each equipped place that slots name; how many words that takes.
-fn sweep<P: Policy>(
+// Does its effect at each equipped place of slots; how many words that takes.
+pub(crate) fn sweep<P: Policy>(
     trunk: Trunk,
     slots: Slots<'_>,
-    rule: Rule,
+    effect: Effect,
     table: &mut [Circuit],
     policy: &mut P,
     words: &mut [u32],
 ) -> usize
     requires inside { slots.first.0 + slots.group.range.0 < length table.old }
     requires table { length table.old ≤ places trunk.config }
-    requires room { (slots.group.range.0 + 1) * 2 ≤ length words.old }
-    ensures all { Stood trunk.config (where_named (named_by slots.entry) (λ _. applied rule))
-        table.old (P.Policy.held policy.old) words.old table.new (P.Policy.held policy.new)
-        words.new result }
+    requires room { tally effect slots (slots.group.range.0 + 1) * 2 ≤ length words.old }
+    ensures done { (octets : List ℕ)
+        → Performed trunk.config
+        (moving (touched effect slots.entry) (rule_by effect slots.entry) []) (result, 0)
+        (lent table.old (P.Policy.held policy.old) words.old octets)
+        (lent table.new (P.Policy.held policy.new) words.new octets) }
     ensures policy { Tells P.Policy.obeys table.old table.new policy.old policy.new }
-    ensures few { result ≤ (slots.entry.group.range.0 + 1) * 2 }
+    ensures few { result ≤ tally effect slots.entry (slots.entry.group.range.0 + 1) * 2 }
 {
     let mut count = 0;
     let circuits = &mut table[slots.first.0..=slots.first.0 + slots.group.range.0 as usize];
     for (n, circuit) in circuits.iter_mut().enumerate() {
-        if slots.names(n as u8) && circuit.equipped {
+        if slots.touches(effect, n as u8) && circuit.equipped {
+            let rule = slots.rule(effect, n as u8);
             let place = Place(slots.first.0 + n);
             let rest = &mut words[count..];
             count += visit(trunk.cic_at(place), place, rule, circuit, policy, rest);
@@ -133,6 +146,30 @@ fn sweep<P: Policy>(
 }
 
 impl Trunk {
+    // Does a rule at the place of an equipped circuit; how many words that takes.
+    pub(crate) fn change_at<P: Policy>(
+        self,
+        place: Place,
+        rule: Rule,
+        table: &mut [Circuit],
+        policy: &mut P,
+        words: &mut [u32],
+    ) -> usize
+        requires inside { place.0 < length table.old }
+        requires table { length table.old ≤ places self.config }
+        requires room { 2 ≤ length words.old }
+        requires equipped { (placed table.old place.0).equipped ≡ true }
+        ensures done { (octets : List ℕ)
+            → Performed self.config (moving (λ k. nat_eq k place.0) (λ _. applied rule) [])
+            (result, 0) (lent table.old (P.Policy.held policy.old) words.old octets)
+            (lent table.new (P.Policy.held policy.new) words.new octets) }
+        ensures policy { Tells P.Policy.obeys table.old table.new policy.old policy.new }
+        ensures few { result ≤ 2 }
+    {
+        let circuit = &mut table[place.0];
+        visit(self.cic_at(place), place, rule, circuit, policy, words)
+    }
+
     // Does a rule at the place of an equipped circuit, and sends a message.
     pub(crate) fn perform_at<P: Policy>(
         self,
@@ -155,10 +192,8 @@ impl Trunk {
             (lent table.new (P.Policy.held policy.new) words.new octets.new) }
         ensures policy { Tells P.Policy.obeys table.old table.new policy.old policy.new }
     {
-        let circuit = &mut table[place.0];
-        let count = visit(self.cic_at(place), place, rule, circuit, policy, words);
-        let length = send(message, &mut words[count..], octets);
-        (count + 1, length)
+        let told = self.change_at(place, rule, table, policy, words);
+        send(message, (told, 0), words, octets)
     }
 
     // Does a rule at each circuit that slots name, and sends a message.
@@ -175,7 +210,7 @@ impl Trunk {
         requires enough { Suffices self.config P.Policy.PLACES
             (lent table.old (P.Policy.held policy.old) words.old octets.old) }
         requires inside { slots.first.0 + slots.group.range.0 < length table.old }
-        requires few { slots.group.range.0 < 32 }
+        requires few { set_bits slots.group.status.now (slots.group.range.0 + 1) ≤ 32 }
         requires sendable { Sendable (meaning message) }
         ensures done { Performed self.config
             (ordered (named_by slots.entry) rule (meaning message.entry)) result
@@ -183,8 +218,7 @@ impl Trunk {
             (lent table.new (P.Policy.held policy.new) words.new octets.new) }
         ensures policy { Tells P.Policy.obeys table.old table.new policy.old policy.new }
     {
-        let count = sweep(self, slots, rule, table, policy, words);
-        let length = send(message, &mut words[count..], octets);
-        (count + 1, length)
+        let told = sweep(self, slots, Effect::Marked(rule), table, policy, words);
+        send(message, (told, 0), words, octets)
     }
 }

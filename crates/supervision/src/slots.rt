@@ -1,16 +1,28 @@
 // Circuits of the table that a status names.
 ghost use Rattle.std.specs.Prelude.{◌≡◌, ◌+◌, ◌<◌, Bool, not, ◌&&◌, length, Ok};
 ghost use Rattle.circuit.specs.Laws.{allows};
+ghost use Rattle.circuit.specs.Orders.{applied};
 ghost use Rattle.refusal.specs.Refusals.{unless};
 ghost use Rattle.refusal.specs.declared.reasons.Refusal.TheVariants.{Address, State};
 ghost use Rattle.status.specs.Bits.{is_named};
 ghost use Rattle.supervision.specs.Moves.{some_from};
-ghost use Rattle.supervision.specs.Steps.{named_by};
+ghost use Rattle.supervision.specs.Steps.{named_by, touched, rule_by};
 
-use circuit::{Circuit, Rule};
+use circuit::{Circuit, Rule, Signal};
 use policy::Place;
 use refusal::Refusal;
 use status::Group;
+
+// What is done to the circuits of a range.
+#[derive(Clone, Copy)]
+pub(crate) enum Effect {
+    // the rule, where the status bit is set
+    Marked(Rule),
+    // the rule, at each circuit
+    Every(Rule),
+    // at each circuit, what GRA does with its status bit
+    Acknowledged,
+}
 
 // A status, and the place of the first circuit of its range.
 #[derive(Clone, Copy)]
@@ -27,8 +39,29 @@ impl Slots<'_> {
         self.group.is_set(n)
     }
 
+    // Whether the effect does something to the n-th circuit of the range.
+    pub(crate) fn touches(self, effect: Effect, n: u8) -> bool
+        ensures { result ≡ touched effect self.entry (self.entry.first.0 + n) }
+    {
+        match effect {
+            Effect::Marked(_) => self.names(n),
+            Effect::Every(_) | Effect::Acknowledged => n <= self.group.range.0,
+        }
+    }
+
+    // What it does there.
+    pub(crate) fn rule(self, effect: Effect, n: u8) -> Rule
+        ensures { (c : Circuit) → applied result c
+            ≡ rule_by effect self.entry (self.entry.first.0 + n) c }
+    {
+        match effect {
+            Effect::Marked(rule) | Effect::Every(rule) => rule,
+            Effect::Acknowledged => Rule::Signal(Signal::Gra(self.names(n))),
+        }
+    }
+
     // Whether each named circuit passes a test.
-    fn all<F: Fn(Circuit) -> bool>(self, passes: F, table: &[Circuit]) -> bool
+    pub(crate) fn all<F: Fn(Circuit) -> bool>(self, passes: F, table: &[Circuit]) -> bool
         requires callable { F.IsAlwaysCallable passes }
         requires inside { self.first.0 + self.group.range.0 < length table.now }
         ensures { (p : Circuit → Bool) → ((c : Circuit) (r : Bool) → F.post passes c r → r ≡ p c)
