@@ -15,6 +15,8 @@ pub mod Passing
 pub mod Settling
 pub mod Some
 pub mod Stepping
+pub mod Systems
 pub mod Touching
 pub mod Turning
+pub mod Writable
 pub mod Writing

@@ -18,7 +18,7 @@ use status::{Group, Range};
 const RANGE: Range = Range(30);
 
 // The circuits of a PCM system from time slot 1 on, with a status.
-fn slots_of(system: usize, status: &[u8]) -> Slots<'_>
+pub(crate) fn slots_of(system: usize, status: &[u8]) -> Slots<'_>
     requires { system < 16 }
     ensures first { result.first.0 ≡ system * 32 + 1 }
     ensures range { result.group.range.0 ≡ 30 }

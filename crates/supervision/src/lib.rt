@@ -2,11 +2,13 @@
 #![tactic(auto, using(crate::proofs::Turning::tells_same))]
 
 mod addressing;
+mod due;
 mod effects;
 mod group;
 mod judging;
 mod opening;
 mod seizing;
+mod sending;
 mod single;
 mod slots;
 mod trunk;

@@ -1,0 +1,100 @@
+// Messages of ours for the circuits of PCM systems, and the alert, written after what an operation wrote already.
+ghost use Rattle.std.specs.Prelude.{◌≡◌, ◌+◌, ◌<◌, ◌≤◌, List, ℕ, length, Some};
+ghost use Rattle.supervision.specs.Due.{is_due};
+ghost use Rattle.supervision.specs.Expiring.{alerting};
+ghost use Rattle.supervision.specs.Groups.{group_for, groups};
+ghost use Rattle.supervision.specs.Steps.{sending, Extends};
+ghost use Rattle.supervision.specs.Trunks.{places};
+
+use crate::due::Due;
+use crate::effects::send;
+use crate::group::slots_of;
+use crate::trunk::{SLOTS, Trunk};
+use circuit::Circuit;
+use message::{BlockType, Grouped, Message};
+use policy::Place;
+use status::Cic;
+use told::{Timer, Word};
+
+// Tells the alert of a timer; how many words and octets are written then.
+pub(crate) fn alert(
+    timer: Timer,
+    cic: Cic,
+    written: (usize, usize),
+    words: &mut [u32],
+) -> (usize, usize)
+    requires { written.0 < length words.old }
+    ensures alerts { (octets : List ℕ)
+        → Extends (alerting (Some (timer, cic))) written words.old octets result words.new octets }
+    ensures told { result.0 ≡ written.0 + 1 }
+{
+    words[written.0] = u32::from(Word::Alert(timer, cic));
+    (written.0 + 1, written.1)
+}
+
+impl Trunk {
+    // Sends our group message for the circuits of a PCM system that are due, if there are any.
+    pub(crate) fn send_group(
+        self,
+        system: usize,
+        due: Due<'_>,
+        what: Grouped,
+        why: BlockType,
+        table: &[Circuit],
+        written: (usize, usize),
+        words: &mut [u32],
+        octets: &mut [u8],
+    ) -> (usize, usize)
+        requires system { system < self.config.systems }
+        requires word { written.0 < length words.old }
+        requires room { written.1 + 11 ≤ length octets.old }
+        requires place { written.1 < 4096 }
+        ensures sends { Extends
+            (sending (group_for self.config what why (is_due due.entry) system table.now)) written
+            words.old octets.old result words.new octets.new }
+        ensures told { result.0 ≤ written.0 + 1 }
+        ensures sent { result.1 ≤ written.1 + 11 }
+        ensures words { length words.new ≡ length words.old }
+        ensures octets { length octets.new ≡ length octets.old }
+    {
+        let mask = due.mask(system, table);
+        if mask == 0 {
+            return written;
+        }
+        let status = (mask / 2).to_le_bytes();
+        let slots = slots_of(system, &status);
+        let message = Message::Grouped(self.cic_at(slots.first), what, why, slots.group);
+        send(message, written, words, octets)
+    }
+
+    // Sends one for each PCM system of the range that has such circuits, rising.
+    pub(crate) fn send_groups(
+        self,
+        due: Due<'_>,
+        what: Grouped,
+        why: BlockType,
+        table: &[Circuit],
+        written: (usize, usize),
+        words: &mut [u32],
+        octets: &mut [u8],
+    ) -> (usize, usize)
+        requires inside { due.slots.first.0 + due.slots.group.range.0 < places self.config }
+        requires word { written.0 + 16 ≤ length words.old }
+        requires room { written.1 + 176 ≤ length octets.old }
+        requires place { written.1 < 2048 }
+        ensures sends { Extends
+            (sending (groups self.config what why (is_due due.entry) table.now)) written
+            words.old octets.old result words.new octets.new }
+        ensures told { result.0 ≤ written.0 + 16 }
+        ensures sent { result.1 ≤ written.1 + 176 }
+        ensures words { length words.new ≡ length words.old }
+        ensures octets { length octets.new ≡ length octets.old }
+    {
+        let mut written = written;
+        let last = due.slots.first.0 + due.slots.group.range.0 as usize;
+        for system in due.slots.first.0 / SLOTS..last / SLOTS + 1 {
+            written = self.send_group(system, due, what, why, table, written, words, octets);
+        }
+        written
+    }
+}
