@@ -47,3 +47,8 @@ pub passed : (a b : Bool) (p q : Place) → Ok p ≡ unless (not a) Address (unl
 passed true true p q e = (refl, refl, let z : p ≡ q = cc in ap (λ x. x.0) z)
 passed true false p q e = let z : ◌≡◌ {A = ℕ} 0 1 = cc in absurd (omega arith)
 passed false b p q e = let z : ◌≡◌ {A = ℕ} 0 1 = cc in absurd (omega arith)
+
+-- what was found is there
+pub found : (a : Bool) (p q : Place) → Ok p ≡ unless (not a) Address (Ok q) → (a ≡ true) × (p.0 ≡ q.0)
+found true p q e = (refl, let z : p ≡ q = cc in ap (λ x. x.0) z)
+found false p q e = let z : ◌≡◌ {A = ℕ} 0 1 = cc in absurd (omega arith)

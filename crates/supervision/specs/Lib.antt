@@ -8,6 +8,7 @@ pub mod Moves
 pub mod Opening
 pub mod Orders
 pub mod Receiving
+pub mod Replies
 pub mod Seizing
 pub mod Steps
 pub mod Telling

@@ -44,6 +44,23 @@ impl Trunk {
         Ok(())
     }
 
+    // The place of an equipped circuit.
+    pub(crate) fn find_equipped(self, cic: Cic, table: &[Circuit]) -> Result<Place, Refusal>
+        requires { length table.now ≡ places self.config }
+        ensures value { result
+            ≡ unless (not (circuit_of self.config cic table.now).equipped) Address
+            (Ok (record { 0 = cic.0 - self.config.first.0 })) }
+        ensures found { IfOk result
+            (λ p. (self.config.first.0 ≤ cic.0) × (p.0 < length table.now)
+            × ((placed table.now p.0).equipped ≡ true)) }
+    {
+        let place = self.place(cic).ok_or(Refusal::Address)?;
+        if !table[place.0].equipped {
+            return Err(Refusal::Address);
+        }
+        Ok(place)
+    }
+
     // The place of a circuit that an order may name.
     pub(crate) fn find(self, cic: Cic, rule: Rule, table: &[Circuit]) -> Result<Place, Refusal>
         requires { length table.now ≡ places self.config }
@@ -55,12 +72,8 @@ impl Trunk {
             (λ p. (self.config.first.0 ≤ cic.0) × (p.0 < length table.now)
             × ((placed table.now p.0).equipped ≡ true)) }
     {
-        let place = self.place(cic).ok_or(Refusal::Address)?;
-        let circuit = table[place.0];
-        if !circuit.equipped {
-            return Err(Refusal::Address);
-        }
-        if !rule.allows(circuit) {
+        let place = self.find_equipped(cic, table)?;
+        if !rule.allows(table[place.0]) {
             return Err(Refusal::State);
         }
         Ok(place)

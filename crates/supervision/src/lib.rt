@@ -7,6 +7,7 @@ mod effects;
 mod group;
 mod judging;
 mod opening;
+mod receiving;
 mod seizing;
 mod sending;
 mod single;

@@ -1,0 +1,150 @@
+// What the far exchange sends.
+ghost use Rattle.std.specs.Prelude.{◌≡◌, ◌+◌, ◌*◌, ◌<◌, ◌≤◌, List, [], ◌∷◌, ℕ, not, ◌&&◌, ◌==◌, length, None, IfOk, IfSome, Ok};
+ghost use Rattle.circuit.specs.Orders.{applied};
+ghost use Rattle.circuit.specs.declared.rules.Rule.TheVariants as rule;
+ghost use Rattle.message.specs.Encode.{refusal_of};
+ghost use Rattle.message.specs.Meaning.{meaning, indicator_of};
+ghost use Rattle.message.specs.Msg.{single, grouped, group_reset, group_reset_ack};
+ghost use Rattle.message.specs.declared.kinds.Single.TheVariants.{Rsc};
+ghost use Rattle.refusal.specs.Refusals.{unless};
+ghost use Rattle.refusal.specs.declared.reasons.Refusal.TheVariants.{Address};
+ghost use Rattle.supervision.specs.Laws.{Outcome};
+ghost use Rattle.supervision.specs.Lending.{Suffices, lent};
+ghost use Rattle.supervision.specs.Moves.{some_from};
+ghost use Rattle.supervision.specs.Receiving.{to_one, is_range, is_counted, is_unexpected, marked, heard, receiving};
+ghost use Rattle.supervision.specs.Replies.{replied, reply_to, signal_of};
+ghost use Rattle.supervision.specs.Steps.{sending, Extends};
+ghost use Rattle.supervision.specs.Telling.{Tells};
+ghost use Rattle.supervision.specs.Trunks.{places};
+
+use crate::due::{Condition, Due};
+use crate::effects::{send, sweep};
+use crate::slots::{Effect, Slots};
+use crate::trunk::{SLOTS, Trunk};
+use circuit::{Cause, Circuit, Reset, Rule, Signal};
+use message::{BlockType, CallKind, Grouped, Message, Single};
+use policy::Policy;
+use refusal::Refusal;
+use status::{Cic, Group, Range};
+
+// What a group message is to each circuit that it names.
+fn signal_of(what: Grouped, why: BlockType) -> Signal
+    ensures { result ≡ signal_of what why }
+{
+    match what {
+        Grouped::Cgb => Signal::Block(why),
+        Grouped::Cgu => Signal::Unblock(why),
+        Grouped::Cgba => Signal::BlockAck(why),
+        Grouped::Cgua => Signal::UnblockAck(why),
+    }
+}
+
+// Whether no reset and no release of ours waits for an RLC, and a call is on the circuit.
+fn is_unexpected(circuit: Circuit) -> bool
+    ensures { result ≡ is_unexpected circuit }
+{
+    circuit.reset != Reset::Single && circuit.call.is_connected()
+}
+
+// What a message for one circuit is answered by at once, from the record before.
+// A release needs the octets of its cause.
+fn reply_to<'a>(cic: Cic, signal: Signal, circuit: Circuit, cause: &'a [u8]) -> Option<Message<'a>>
+    requires { cause.now ≡ 0x87 ∷ 0x9f ∷ [] }
+    ensures value { replied result ≡ reply_to cic.0 signal circuit }
+    ensures writable { cic.0 < 4096 → IfSome result (λ m. refusal_of (meaning m) ≡ None) }
+{
+    let local = circuit.local;
+    match signal {
+        Signal::Rel => Some(Message::ReleaseComplete(cic)),
+        Signal::Rlc if is_unexpected(circuit) => Some(Message::Release(cic, cause)),
+        Signal::Block(_) => Some(Message::Single(cic, Single::Bla)),
+        Signal::Unblock(_) => Some(Message::Single(cic, Single::Uba)),
+        Signal::BlockAck(why) if local.of(why).is_none() => Some(Message::Single(cic, Single::Ubl)),
+        Signal::UnblockAck(why) if local.of(why).is_standing() => {
+            Some(Message::Single(cic, Single::Blo))
+        }
+        Signal::Rsc if local.maintenance.is_standing() => Some(Message::Single(cic, Single::Blo)),
+        _ => None,
+    }
+}
+
+// Sends that.
+fn reply(
+    cic: Cic,
+    signal: Signal,
+    circuit: Circuit,
+    written: (usize, usize),
+    words: &mut [u32],
+    octets: &mut [u8],
+) -> (usize, usize)
+    requires cic { cic.0 < 4096 }
+    requires word { written.0 < length words.old }
+    requires room { written.1 + 8 ≤ length octets.old }
+    requires place { written.1 < 4096 }
+    ensures sends { Extends (sending (reply_to cic.0 signal circuit)) written words.old octets.old
+        result words.new octets.new }
+    ensures told { result.0 ≤ written.0 + 1 }
+    ensures sent { result.1 ≤ written.1 + 8 }
+    ensures words { length words.new ≡ length words.old }
+    ensures octets { length octets.new ≡ length octets.old }
+{
+    let cause = <[u8; 2]>::from(Cause::UNEXPECTED);
+    let Some(message) = reply_to(cic, signal, circuit, &cause) else {
+        return written;
+    };
+    send(message, written, words, octets)
+}
+
+impl Trunk {
+    // The circuits of a message for a range: none past the table, and none named that is not equipped.
+    fn span<'a>(self, cic: Cic, group: Group<'a>, table: &[Circuit]) -> Result<Slots<'a>, Refusal>
+        requires { length table.now ≡ places self.config }
+        ensures value { result
+            ≡ unless (not (is_range self.config cic.0 group.range.0)) Address
+            (unless
+            (some_from
+            (λ k c. marked self.config cic.0 group.range.0 group.status.now k && not c.equipped) 0
+            table.now)
+            Address
+            (Ok (record { first = record { 0 = cic.0 - self.config.first.0 }; group = group }))) }
+        ensures inside { IfOk result
+            (λ slots. (self.config.first.0 ≤ cic.0)
+            × (slots.first.0 + slots.group.range.0 < length table.now)) }
+    {
+        let first = self.place(cic).ok_or(Refusal::Address)?;
+        let slots = Slots { first, group };
+        if first.0 + group.range.0 as usize >= self.places() {
+            return Err(Refusal::Address);
+        }
+        if !slots.all(|circuit| circuit.equipped, table) {
+            return Err(Refusal::Address);
+        }
+        Ok(slots)
+    }
+
+    // A message for one circuit that is answered at once, or not at all.
+    fn hear_one<P: Policy>(
+        self,
+        cic: Cic,
+        signal: Signal,
+        table: &mut [Circuit],
+        policy: &mut P,
+        words: &mut [u32],
+        octets: &mut [u8],
+    ) -> Result<(usize, usize), Refusal>
+        requires enough { Suffices self.config P.Policy.PLACES
+            (lent table.old (P.Policy.held policy.old) words.old octets.old) }
+        ensures outcome { Outcome self.config
+            (λ before.
+            to_one self.config cic.0 (applied (rule.Signal signal)) (reply_to cic.0 signal)
+            before.table) result
+            (lent table.old (P.Policy.held policy.old) words.old octets.old)
+            (lent table.new (P.Policy.held policy.new) words.new octets.new) }
+        ensures policy { Tells P.Policy.obeys table.old table.new policy.old policy.new }
+    {
+        let place = self.find_equipped(cic, table)?;
+        let circuit = table[place.0];
+        let told = self.change_at(place, Rule::Signal(signal), table, policy, words);
+        Ok(reply(cic, signal, circuit, (told, 0), words, octets))
+    }
+}
