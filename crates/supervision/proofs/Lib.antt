@@ -12,6 +12,7 @@ pub mod Keeping
 pub mod Masks
 pub mod Naming
 pub mod Passing
+pub mod Ranges
 pub mod Settling
 pub mod Some
 pub mod Stepping

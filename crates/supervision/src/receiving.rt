@@ -1,5 +1,5 @@
 // What the far exchange sends.
-ghost use Rattle.std.specs.Prelude.{◌≡◌, ◌+◌, ◌*◌, ◌<◌, ◌≤◌, List, [], ◌∷◌, ℕ, not, ◌&&◌, ◌==◌, length, None, IfOk, IfSome, Ok};
+ghost use Rattle.std.specs.Prelude.{◌≡◌, ◌+◌, ◌*◌, ◌<◌, ◌≤◌, List, [], ◌∷◌, ℕ, ◌-◌, not, ◌&&◌, ◌==◌, length, None, IfOk, IfSome, Ok};
 ghost use Rattle.circuit.specs.Orders.{applied};
 ghost use Rattle.circuit.specs.declared.rules.Rule.TheVariants as rule;
 ghost use Rattle.message.specs.Encode.{refusal_of};
@@ -100,22 +100,24 @@ impl Trunk {
     fn span<'a>(self, cic: Cic, group: Group<'a>, table: &[Circuit]) -> Result<Slots<'a>, Refusal>
         requires { length table.now ≡ places self.config }
         ensures value { result
-            ≡ unless (not (is_range self.config cic.0 group.range.0)) Address
+            ≡ unless (not (is_range self.config cic.0 group.entry.range.0)) Address
             (unless
             (some_from
-            (λ k c. marked self.config cic.0 group.range.0 group.status.now k && not c.equipped) 0
+            (λ k c. marked self.config cic.0 group.entry.range.0 group.entry.status.now k && not c.equipped) 0
             table.now)
             Address
-            (Ok (record { first = record { 0 = cic.0 - self.config.first.0 }; group = group }))) }
+            (Ok (record { first = record { 0 = cic.0 - self.config.first.0 }; group = group.entry }))) }
         ensures inside { IfOk result
             (λ slots. (self.config.first.0 ≤ cic.0)
             × (slots.first.0 + slots.group.range.0 < length table.now)) }
     {
-        let first = self.place(cic).ok_or(Refusal::Address)?;
-        let slots = Slots { first, group };
+        let Some(first) = self.place(cic) else {
+            return Err(Refusal::Address);
+        };
         if first.0 + group.range.0 as usize >= self.places() {
             return Err(Refusal::Address);
         }
+        let slots = Slots { first, group };
         if !slots.all(|circuit| circuit.equipped, table) {
             return Err(Refusal::Address);
         }
@@ -146,5 +148,97 @@ impl Trunk {
         let circuit = table[place.0];
         let told = self.change_at(place, Rule::Signal(signal), table, policy, words);
         Ok(reply(cic, signal, circuit, (told, 0), words, octets))
+    }
+
+    // RSC: besides its effect and the answer at once, a hardware block that stands is asked again, and RLC is sent.
+    fn hear_reset<P: Policy>(
+        self,
+        cic: Cic,
+        table: &mut [Circuit],
+        policy: &mut P,
+        words: &mut [u32],
+        octets: &mut [u8],
+    ) -> Result<(usize, usize), Refusal>
+        requires enough { Suffices self.config P.Policy.PLACES
+            (lent table.old (P.Policy.held policy.old) words.old octets.old) }
+        ensures outcome { Outcome self.config
+            (λ before. heard self.config (single cic.0 Rsc) before.table) result
+            (lent table.old (P.Policy.held policy.old) words.old octets.old)
+            (lent table.new (P.Policy.held policy.new) words.new octets.new) }
+        ensures policy { Tells P.Policy.obeys table.old table.new policy.old policy.new }
+    {
+        let place = self.find_equipped(cic, table)?;
+        let circuit = table[place.0];
+        let rule = Rule::Signal(Signal::Rsc);
+        let told = self.change_at(place, rule, table, policy, words);
+        let written = reply(cic, Signal::Rsc, circuit, (told, 0), words, octets);
+        let due = Due {
+            slots: Slots::one(place),
+            effect: Effect::Every(rule),
+            condition: Condition::Standing(BlockType::Hardware),
+        };
+        let (what, why) = (Grouped::Cgb, BlockType::Hardware);
+        let system = place.0 / SLOTS;
+        let written = self.send_group(system, due, what, why, table, written, words, octets);
+        Ok(send(Message::ReleaseComplete(cic), written, words, octets))
+    }
+
+    // CGB, CGU, CGBA, CGUA: the effect at each circuit whose bit is set, and one answer, or one for each PCM system.
+    fn hear_group<P: Policy>(
+        self,
+        cic: Cic,
+        what: Grouped,
+        why: BlockType,
+        group: Group<'_>,
+        table: &mut [Circuit],
+        policy: &mut P,
+        words: &mut [u32],
+        octets: &mut [u8],
+    ) -> Result<(usize, usize), Refusal>
+        requires enough { Suffices self.config P.Policy.PLACES
+            (lent table.old (P.Policy.held policy.old) words.old octets.old) }
+        requires allowed { refusal_of
+            (grouped cic.0 what (indicator_of why) group.range.0 group.status.now)
+            ≡ None }
+        ensures outcome { Outcome self.config
+            (λ before.
+            heard self.config
+            (grouped cic.0 what (indicator_of why) group.entry.range.0 group.entry.status.now)
+            before.table) result
+            (lent table.old (P.Policy.held policy.old) words.old octets.old)
+            (lent table.new (P.Policy.held policy.new) words.new octets.new) }
+        ensures policy { Tells P.Policy.obeys table.old table.new policy.old policy.new }
+    {
+        let slots = self.span(cic, group, table)?;
+        let effect = Effect::Marked(Rule::Signal(signal_of(what, why)));
+        let told = sweep(self, slots, effect, table, policy, words);
+        match what {
+            Grouped::Cgb => {
+                let answer = Message::Grouped(cic, Grouped::Cgba, why, group);
+                Ok(send(answer, (told, 0), words, octets))
+            }
+            Grouped::Cgu => {
+                let answer = Message::Grouped(cic, Grouped::Cgua, why, group);
+                Ok(send(answer, (told, 0), words, octets))
+            }
+            Grouped::Cgba => {
+                let condition = Condition::Unblocked(why);
+                let due = Due {
+                    slots,
+                    effect,
+                    condition,
+                };
+                Ok(self.send_groups(due, Grouped::Cgu, why, table, (told, 0), words, octets))
+            }
+            Grouped::Cgua => {
+                let condition = Condition::Standing(why);
+                let due = Due {
+                    slots,
+                    effect,
+                    condition,
+                };
+                Ok(self.send_groups(due, Grouped::Cgb, why, table, (told, 0), words, octets))
+            }
+        }
     }
 }

@@ -11,7 +11,7 @@ ghost use Rattle.supervision.specs.Steps.{named_by, touched, rule_by};
 use circuit::{Circuit, Rule, Signal};
 use policy::Place;
 use refusal::Refusal;
-use status::Group;
+use status::{Group, Range};
 
 // What is done to the circuits of a range.
 #[derive(Clone, Copy)]
@@ -32,6 +32,20 @@ pub(crate) struct Slots<'a> {
 }
 
 impl Slots<'_> {
+    // One circuit, with no status.
+    pub(crate) fn one(place: Place) -> Slots<'static>
+        ensures first { result.first.0 ≡ place.0 }
+        ensures range { result.group.range.0 ≡ 0 }
+    {
+        Slots {
+            first: place,
+            group: Group {
+                range: Range(0),
+                status: &[],
+            },
+        }
+    }
+
     // Whether they name the n-th circuit of the range.
     pub(crate) fn names(self, n: u8) -> bool
         ensures { result ≡ is_named self.entry.group.range.0 self.entry.group.status.now n }
