@@ -15,7 +15,7 @@ use refusal::Refusal;
 use status::{Group, Range};
 
 // Our group messages count from time slot 1, with this range.
-const RANGE: Range = Range(30);
+pub(crate) const RANGE: Range = Range(30);
 
 // The circuits of a PCM system from time slot 1 on, with a status.
 pub(crate) fn slots_of(system: usize, status: &[u8]) -> Slots<'_>

@@ -19,6 +19,7 @@ ghost use Rattle.supervision.specs.Trunks.{places};
 
 use crate::due::{Condition, Due};
 use crate::effects::{send, sweep};
+use crate::group::RANGE;
 use crate::slots::{Effect, Slots};
 use crate::trunk::{SLOTS, Trunk};
 use circuit::{Cause, Circuit, Reset, Rule, Signal};
@@ -240,5 +241,155 @@ impl Trunk {
                 Ok(self.send_groups(due, Grouped::Cgb, why, table, (told, 0), words, octets))
             }
         }
+    }
+
+    // GRS: each circuit of the range is reset; hardware blocks that stand are asked again, and GRA shows maintenance
+    // blocks that stand.
+    fn hear_group_reset<P: Policy>(
+        self,
+        cic: Cic,
+        range: Range,
+        table: &mut [Circuit],
+        policy: &mut P,
+        words: &mut [u32],
+        octets: &mut [u8],
+    ) -> Result<(usize, usize), Refusal>
+        requires enough { Suffices self.config P.Policy.PLACES
+            (lent table.old (P.Policy.held policy.old) words.old octets.old) }
+        requires allowed { refusal_of (group_reset cic.0 range.0) ≡ None }
+        ensures outcome { Outcome self.config
+            (λ before. heard self.config (group_reset cic.0 range.0) before.table) result
+            (lent table.old (P.Policy.held policy.old) words.old octets.old)
+            (lent table.new (P.Policy.held policy.new) words.new octets.new) }
+        ensures policy { Tells P.Policy.obeys table.old table.new policy.old policy.new }
+    {
+        let slots = self.span(cic, Group { range, status: &[] }, table)?;
+        let effect = Effect::Every(Rule::Signal(Signal::Grs));
+        let told = sweep(self, slots, effect, table, policy, words);
+        let (what, why) = (Grouped::Cgb, BlockType::Hardware);
+        let condition = Condition::Standing(why);
+        let due = Due {
+            slots,
+            effect,
+            condition,
+        };
+        let written = self.send_groups(due, what, why, table, (told, 0), words, octets);
+        let condition = Condition::Standing(BlockType::Maintenance);
+        let shown = Due {
+            slots,
+            effect,
+            condition,
+        };
+        let bits = shown.bits(slots.first, 0, table).to_le_bytes();
+        let status = &bits[..range.status_octets()];
+        let answer = Message::GroupResetAck(cic, Group { range, status });
+        Ok(send(answer, written, words, octets))
+    }
+
+    // GRA: where it counts, group resets of the range end, and status bits become far maintenance blocks.
+    fn hear_group_reset_ack<P: Policy>(
+        self,
+        cic: Cic,
+        group: Group<'_>,
+        table: &mut [Circuit],
+        policy: &mut P,
+        words: &mut [u32],
+        octets: &mut [u8],
+    ) -> Result<(usize, usize), Refusal>
+        requires enough { Suffices self.config P.Policy.PLACES
+            (lent table.old (P.Policy.held policy.old) words.old octets.old) }
+        ensures outcome { Outcome self.config
+            (λ before.
+            heard self.config
+            (group_reset_ack cic.0 group.entry.range.0 group.entry.status.now) before.table)
+            result
+            (lent table.old (P.Policy.held policy.old) words.old octets.old)
+            (lent table.new (P.Policy.held policy.new) words.new octets.new) }
+        ensures policy { Tells P.Policy.obeys table.old table.new policy.old policy.new }
+    {
+        let slots = self.span(cic, group, table)?;
+        if slots.first.0 % SLOTS != 1 || group.range != RANGE {
+            return Ok((0, 0));
+        }
+        let told = sweep(self, slots, Effect::Acknowledged, table, policy, words);
+        Ok((told, 0))
+    }
+
+    // A message that was read.
+    fn hear<P: Policy>(
+        self,
+        message: Message<'_>,
+        table: &mut [Circuit],
+        policy: &mut P,
+        words: &mut [u32],
+        octets: &mut [u8],
+    ) -> Result<(usize, usize), Refusal>
+        requires enough { Suffices self.config P.Policy.PLACES
+            (lent table.old (P.Policy.held policy.old) words.old octets.old) }
+        requires allowed { refusal_of (meaning message) ≡ None }
+        ensures outcome { Outcome self.config
+            (λ before. heard self.config (meaning message.entry) before.table) result
+            (lent table.old (P.Policy.held policy.old) words.old octets.old)
+            (lent table.new (P.Policy.held policy.new) words.new octets.new) }
+        ensures policy { Tells P.Policy.obeys table.old table.new policy.old policy.new }
+    {
+        let why = BlockType::Maintenance;
+        match message {
+            Message::Single(cic, Single::Rsc) => self.hear_reset(cic, table, policy, words, octets),
+            Message::Single(cic, Single::Blo) => {
+                self.hear_one(cic, Signal::Block(why), table, policy, words, octets)
+            }
+            Message::Single(cic, Single::Ubl) => {
+                self.hear_one(cic, Signal::Unblock(why), table, policy, words, octets)
+            }
+            Message::Single(cic, Single::Bla) => {
+                self.hear_one(cic, Signal::BlockAck(why), table, policy, words, octets)
+            }
+            Message::Single(cic, Single::Uba) => {
+                self.hear_one(cic, Signal::UnblockAck(why), table, policy, words, octets)
+            }
+            Message::ReleaseComplete(cic) => {
+                self.hear_one(cic, Signal::Rlc, table, policy, words, octets)
+            }
+            Message::Release(cic, _) => {
+                self.hear_one(cic, Signal::Rel, table, policy, words, octets)
+            }
+            Message::Call(cic, CallKind::Iam, _) => {
+                let signal = Signal::Iam(self.controls(cic));
+                self.hear_one(cic, signal, table, policy, words, octets)
+            }
+            Message::Call(cic, _, _) => {
+                self.hear_one(cic, Signal::Progress, table, policy, words, octets)
+            }
+            Message::Grouped(cic, what, why, group) => {
+                self.hear_group(cic, what, why, group, table, policy, words, octets)
+            }
+            Message::GroupReset(cic, range) => {
+                self.hear_group_reset(cic, range, table, policy, words, octets)
+            }
+            Message::GroupResetAck(cic, group) => {
+                self.hear_group_reset_ack(cic, group, table, policy, words, octets)
+            }
+        }
+    }
+
+    // Receives the octets of a message.
+    pub(crate) fn receive<P: Policy>(
+        self,
+        received: &[u8],
+        table: &mut [Circuit],
+        policy: &mut P,
+        words: &mut [u32],
+        octets: &mut [u8],
+    ) -> Result<(usize, usize), Refusal>
+        ensures outcome { Outcome self.config
+            (receiving self.config P.Policy.PLACES received.now) result
+            (lent table.old (P.Policy.held policy.old) words.old octets.old)
+            (lent table.new (P.Policy.held policy.new) words.new octets.new) }
+        ensures policy { Tells P.Policy.obeys table.old table.new policy.old policy.new }
+    {
+        self.admit(table, policy, words, octets)?;
+        let message = message::read(received)?;
+        self.hear(message, table, policy, words, octets)
     }
 }

@@ -1,0 +1,148 @@
+-- Resets of the far exchange: which places a range is, what is asked again, and the status that GRA shows.
+use Rattle.std.proofs.Common.{◌≡◌, ℕ, zero, suc, ◌+◌, ◌-◌, ◌*◌, ◌/◌, ◌%◌, ◌^◌, ◌<◌, ◌≤◌, Bool, true, false, cond, ◌&&◌, leb, eqb, List, [], ◌∷◌, ◌++◌, length, take, Ok, None, sym, refl, ap, ◌∙◌, ⊎_elim, add-zero, arith}
+use mathlib.Core.Path.{fun_ext}
+use Rattle.std.proofs.Math.Nat.{add_comm}
+use Rattle.std.proofs.lemmas.Nat.{pow-add, shr_high, mod_low}
+use Rattle.message.proofs.RoundTrip.{may_write}
+use Rattle.std.proofs.lemmas.Bool.{cases_lt, cases_eq, le-leb, lt-leb, leb-true, and_left, and_right, and_parts, eq-eqb, ne_eqb}
+use Rattle.status.specs.Bits.{octets_for}
+use Rattle.status.specs.declared.group.Group.{Group}
+use Rattle.message.specs.Encode.{refusal_of}
+use Rattle.message.specs.Msg.{group_reset}
+use Rattle.message.specs.declared.kinds.BlockType.TheVariants.{Maintenance, Hardware}
+use Rattle.message.specs.declared.kinds.Grouped.TheVariants.{Cgb}
+use Rattle.circuit.proofs.Keeping.{rsc_keeps, grs_keeps}
+use Rattle.circuit.specs.Circuits.{is_standing}
+use Rattle.circuit.specs.Signals.{on_rsc, on_grs}
+use Rattle.circuit.specs.declared.rules.Rule.TheVariants.{Signal}
+use Rattle.circuit.specs.declared.signals.Signal.TheVariants as signal
+use Rattle.circuit.specs.declared.record.Circuit.{Circuit}
+use Rattle.supervision.specs.declared.due.Condition.TheVariants.{Standing}
+use Rattle.supervision.specs.declared.due.Due.{Due}
+use Rattle.supervision.specs.declared.slots.Effect.TheVariants.{Every}
+use Rattle.supervision.specs.declared.slots.Slots.{Slots}
+use Rattle.supervision.specs.declared.trunk.Config.{Config}
+use Rattle.supervision.specs.Due.{is_due}
+use Rattle.supervision.specs.Groups.{bits_below, group_for, status_from, status_by}
+use Rattle.supervision.specs.Moves.{table_of}
+use Rattle.supervision.specs.Orders.{circuit_of, only}
+use Rattle.supervision.specs.Receiving.{as_cic, moving, in_range, ask_again}
+use Rattle.supervision.specs.Steps.{spanned}
+use Rattle.supervision.specs.Trunks.{placed}
+use Rattle.supervision.proofs.Bits.{bits_fit, bits_same}
+use Rattle.supervision.proofs.Ranges.{due_after, reset_stands}
+use Rattle.supervision.proofs.Systems.{group_same}
+
+-- the places of slots are those of the range
+spans_at : (f r k : ℕ) → (leb f k && leb (k - f) r) ≡ (leb f k && leb k (f + r))
+spans_at f r k = ⊎_elim
+    (λ (l : k < f). rw (lt-leb f k l) refl)
+    (λ (l : f ≤ k). ⊎_elim
+    (λ (h : f + r < k). rw (lt-leb (k - f) r (omega (arith, l, h)), lt-leb k (f + r) h) refl)
+    (λ (h : k ≤ f + r). rw (le-leb (k - f) r (omega (arith, l, h)), le-leb k (f + r) h) refl)
+    (cases_lt (f + r) k))
+    (cases_lt k f)
+
+pub spans_range : (t : Config) (c : ℕ) (g : Group) → spanned (record { first = record { 0 = c - t.first.0 }; group = g }) ≡ in_range t c g.range.0
+spans_range t c g = fun_ext (λ k. spans_at (c - t.first.0) g.range.0 k)
+
+pub swapped : (a b c : Bool) → (a && (b && c)) ≡ (b && (a && c))
+swapped true b c = refl
+swapped false true c = refl
+swapped false false c = refl
+
+-- ## Octets of a number that is made of tests
+
+bits_split : (p : ℕ → Bool) (a m : ℕ) → bits_below p (a + m) ≡ bits_below (λ b. p (a + b)) m * 2 ^ a + bits_below p a
+bits_split p a zero = rw (add-zero a) (omega arith)
+bits_split p a (suc m) =
+    let e : a + suc m ≡ suc (a + m) = omega arith in
+    rw (e, bits_split p a m) (go (p (a + m)))
+  where
+    go : (b : Bool) → bits_below (λ b. p (a + b)) m * 2 ^ a + bits_below p a + cond b (2 ^ (a + m)) 0 ≡ (bits_below (λ b. p (a + b)) m + cond b (2 ^ m) 0) * 2 ^ a + bits_below p a
+    go true = rw (ap (λ (j : ℕ). 2 ^ j) (add_comm a m) ∙ pow-add 2 m a) (grind arith)
+    go false = rw (add-zero (bits_below (λ b. p (a + b)) m), add-zero (bits_below (λ b. p (a + b)) m * 2 ^ a + bits_below p a)) refl
+
+-- eight bits from the bit a on
+byte_at : (p : ℕ → Bool) (a k : ℕ) → bits_below p (a + (8 + k)) / 2 ^ a % 2 ^ 8 ≡ bits_below (λ b. p (a + b)) 8
+byte_at p a k =
+    let q = λ (b : ℕ). p (a + b) in
+    rw (bits_split p a (8 + k), shr_high (bits_below q (8 + k)) a (bits_below p a) (bits_fit p a), bits_split q 8 k)
+    (mod_low (bits_below (λ b. q (8 + b)) k) 8 (bits_below q 8) (bits_fit q 8))
+
+-- the octets of 32 tests are those of a status
+pub bytes_are : (p : ℕ → Bool) (x : ℕ) → x ≡ bits_below p 32
+    → (x % 256 ∷ x / 256 % 256 ∷ x / 65536 % 256 ∷ x / 16777216 % 256 ∷ []) ≡ status_from p 0 4
+bytes_are p x e = rw e
+    (let a : bits_below p 32 % 256 ≡ bits_below (λ b. p (8 * 0 + b)) 8 = first in
+    let b : bits_below p 32 / 256 % 256 ≡ bits_below (λ b. p (8 * 1 + b)) 8 = same 8 (byte_at p 8 16) in
+    let c : bits_below p 32 / 65536 % 256 ≡ bits_below (λ b. p (8 * 2 + b)) 8 = same 16 (byte_at p 16 8) in
+    let d : bits_below p 32 / 16777216 % 256 ≡ bits_below (λ b. p (8 * 3 + b)) 8 = same 24 (byte_at p 24 0) in
+    rw (a, b, c, d) refl)
+  where
+    first : bits_below p (8 + 24) % 2 ^ 8 ≡ bits_below p 8
+    first = rw (bits_split p 8 24) (mod_low (bits_below (λ b. p (8 + b)) 24) 8 (bits_below p 8) (bits_fit p 8))
+
+    same : (i : ℕ) {x : ℕ} → x ≡ bits_below (λ b. p (i + b)) 8 → x ≡ bits_below (λ b. p (i + b)) 8
+    same i h = h
+
+status_front : (p : ℕ → Bool) (i n m : ℕ) → n ≤ m → take n (status_from p i m) ≡ status_from p i n
+status_front p i zero m l = refl
+status_front p i (suc n) zero l = absurd (omega arith)
+status_front p i (suc n) (suc m) l = ap (λ s. bits_below (λ b. p (8 * i + b)) 8 ∷ s) (status_front p (suc i) n m (omega arith))
+
+status_same : (p q : ℕ → Bool) (i n : ℕ) → ((j : ℕ) → p j ≡ q j) → status_from p i n ≡ status_from q i n
+status_same p q i zero h = refl
+status_same p q i (suc n) h = rw (bits_same (λ b. p (8 * i + b)) (λ b. q (8 * i + b)) 8 (λ b l. h (8 * i + b)), status_same p q (suc i) n h) refl
+
+-- as many as a range asks for
+pub status_is : (p q : ℕ → Bool) (r x : ℕ) → r ≤ 31 → x ≡ bits_below p 32 → ((n : ℕ) → p n ≡ (leb n r && q n))
+    → take (octets_for r) (x % 256 ∷ x / 256 % 256 ∷ x / 65536 % 256 ∷ x / 16777216 % 256 ∷ []) ≡ status_by q r
+status_is p q r x l e h =
+    ap (take (octets_for r)) (bytes_are p x e) ∙ status_front p 0 (octets_for r) 4 (omega arith) ∙ status_same p (λ n. leb n r && q n) 0 (octets_for r) h
+
+-- the circuit of a CIC of the range
+pub circuit_in : (t : Config) (c n : ℕ) (T : List Circuit) → t.first.0 ≤ c → circuit_of t (as_cic (c + n)) T ≡ placed T (c - t.first.0 + n)
+circuit_in t c n T l =
+    let f = t.first.0 in
+    let e : c + n - f ≡ c - f + n = omega (arith, l) in
+    rw (le-leb f (c + n) (omega (arith, l)), e) refl
+
+-- the limits of GRS
+pub reset_limits : (c r : ℕ) → refusal_of (group_reset c r) ≡ None → (c ≤ 4095) × (1 ≤ r) × (r ≤ 31)
+reset_limits c r e =
+    let w = may_write (group_reset c r) e in
+    let lim = and_parts (leb 1 r) (leb r 31) w.1 in
+    (w.0, leb-true 1 r lim.0, leb-true r 31 lim.1)
+
+-- a range of one circuit
+pub one_place : (p k : ℕ) → (leb p k && leb (k - p) 0) ≡ eqb k p
+one_place p k = ⊎_elim
+    (λ (e : k ≡ p). rw (le-leb p k (omega (arith, e)), le-leb (k - p) 0 (omega (arith, e)), eq-eqb k p e) refl)
+    (λ (n : k ≡ p → ⊥). ⊎_elim
+    (λ (l : k < p). rw (lt-leb p k l, ne_eqb k p n) refl)
+    (λ (l : p ≤ k).
+    let h : 0 < k - p = ⊎_elim (λ (y : p < k). omega (arith, y)) (λ (y : k ≤ p). absurd (n (omega (arith, l, y)))) (cases_lt p k) in
+    rw (le-leb p k l, lt-leb (k - p) 0 h, ne_eqb k p n) refl)
+    (cases_lt k p))
+    (cases_eq k p)
+
+-- the hardware block that is asked again after an RSC
+pub asked_after : (t : Config) (c : ℕ) (s : Slots) (T U : List Circuit)
+    → s.first.0 ≡ c - t.first.0
+    → s.group.range.0 ≡ 0
+    → (placed T (c - t.first.0)).equipped ≡ true
+    → U ≡ table_of (moving (only t (as_cic c)) (λ _. on_rsc) []) T
+    → group_for t Cgb Hardware (is_due (record { slots = s; effect = Every (Signal signal.Rsc); condition = Standing Hardware })) ((c - t.first.0) / 32) U ≡ ask_again t c T
+asked_after t c s T U f r q u =
+    let due : Due = record { slots = s; effect = Every (Signal signal.Rsc); condition = Standing Hardware } in
+    let m = moving (only t (as_cic c)) (λ _. on_rsc) [] in
+    group_same t Cgb Hardware (is_due due) (λ k x. only t (as_cic c) k && is_standing x.local.hardware) ((c - t.first.0) / 32) U T
+    (λ k _. ap (λ (V : List Circuit). is_due due k (placed V k)) u ∙ due_after m due T (λ _ x. (rsc_keeps x).equipped) (λ _ x. reset_stands Hardware x) k
+    ∙ rw (f, r, one_place (c - t.first.0) k) (here k (is_standing (placed T k).local.hardware)))
+  where
+    here : (k : ℕ) (b : Bool) → (eqb k (c - t.first.0) && ((placed T k).equipped && b)) ≡ (eqb k (c - t.first.0) && b)
+    here k b = ⊎_elim
+        (λ (e : k ≡ c - t.first.0). let z : (placed T k).equipped ≡ true = rw e q in rw z refl)
+        (λ (n : k ≡ c - t.first.0 → ⊥). rw (ne_eqb k (c - t.first.0) n) refl)
+        (cases_eq k (c - t.first.0))
