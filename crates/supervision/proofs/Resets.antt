@@ -6,13 +6,13 @@ use Rattle.std.proofs.lemmas.Nat.{pow-add, shr_high, mod_low}
 use Rattle.message.proofs.RoundTrip.{may_write}
 use Rattle.std.proofs.lemmas.Bool.{cases_lt, cases_eq, le-leb, lt-leb, leb-true, and_left, and_right, and_parts, eq-eqb, ne_eqb}
 use Rattle.status.specs.Bits.{octets_for}
-use Rattle.status.specs.declared.group.Group.{Group}
 use Rattle.message.specs.Encode.{refusal_of}
 use Rattle.message.specs.Msg.{group_reset}
+use Rattle.message.specs.declared.kinds.BlockType.{BlockType}
 use Rattle.message.specs.declared.kinds.BlockType.TheVariants.{Maintenance, Hardware}
 use Rattle.message.specs.declared.kinds.Grouped.TheVariants.{Cgb}
 use Rattle.circuit.proofs.Keeping.{rsc_keeps, grs_keeps}
-use Rattle.circuit.specs.Circuits.{is_standing}
+use Rattle.circuit.specs.Circuits.{block_of, is_standing}
 use Rattle.circuit.specs.Signals.{on_rsc, on_grs}
 use Rattle.circuit.specs.declared.rules.Rule.TheVariants.{Signal}
 use Rattle.circuit.specs.declared.signals.Signal.TheVariants as signal
@@ -22,16 +22,16 @@ use Rattle.supervision.specs.declared.due.Due.{Due}
 use Rattle.supervision.specs.declared.slots.Effect.TheVariants.{Every}
 use Rattle.supervision.specs.declared.slots.Slots.{Slots}
 use Rattle.supervision.specs.declared.trunk.Config.{Config}
-use Rattle.supervision.specs.Due.{is_due}
-use Rattle.supervision.specs.Groups.{bits_below, group_for, status_from, status_by}
+use Rattle.supervision.specs.Due.{is_due, due_bits}
+use Rattle.supervision.specs.Groups.{bits_below, group_for, groups, status_from, status_by}
 use Rattle.supervision.specs.Moves.{table_of}
 use Rattle.supervision.specs.Orders.{circuit_of, only}
-use Rattle.supervision.specs.Receiving.{as_cic, moving, in_range, ask_again}
+use Rattle.supervision.specs.Receiving.{as_cic, moving, in_range, ask_again, shows}
 use Rattle.supervision.specs.Steps.{spanned}
 use Rattle.supervision.specs.Trunks.{placed}
 use Rattle.supervision.proofs.Bits.{bits_fit, bits_same}
-use Rattle.supervision.proofs.Ranges.{due_after, reset_stands}
-use Rattle.supervision.proofs.Systems.{group_same}
+use Rattle.supervision.proofs.Ranges.{due_after, reset_stands, group_reset_stands}
+use Rattle.supervision.proofs.Systems.{group_same, groups_same}
 
 -- the places of slots are those of the range
 spans_at : (f r k : ℕ) → (leb f k && leb (k - f) r) ≡ (leb f k && leb k (f + r))
@@ -43,8 +43,8 @@ spans_at f r k = ⊎_elim
     (cases_lt (f + r) k))
     (cases_lt k f)
 
-pub spans_range : (t : Config) (c : ℕ) (g : Group) → spanned (record { first = record { 0 = c - t.first.0 }; group = g }) ≡ in_range t c g.range.0
-spans_range t c g = fun_ext (λ k. spans_at (c - t.first.0) g.range.0 k)
+pub spans_range : (t : Config) (c r : ℕ) (s : Slots) → s.first.0 ≡ c - t.first.0 → s.group.range.0 ≡ r → spanned s ≡ in_range t c r
+spans_range t c r s f e = fun_ext (λ k. rw (f, e) (spans_at (c - t.first.0) r k))
 
 pub swapped : (a b c : Bool) → (a && (b && c)) ≡ (b && (a && c))
 swapped true b c = refl
@@ -146,3 +146,50 @@ asked_after t c s T U f r q u =
         (λ (e : k ≡ c - t.first.0). let z : (placed T k).equipped ≡ true = rw e q in rw z refl)
         (λ (n : k ≡ c - t.first.0 → ⊥). rw (ne_eqb k (c - t.first.0) n) refl)
         (cases_eq k (c - t.first.0))
+
+-- ## A group reset
+
+-- what is due after a group reset is what the rules say of the table before
+grs_due : (t : Config) (c r : ℕ) (s : Slots) (why : BlockType) (T U : List Circuit)
+    → s.first.0 ≡ c - t.first.0
+    → s.group.range.0 ≡ r
+    → U ≡ table_of (moving (in_range t c r) (λ _. on_grs) []) T
+    → (k : ℕ) → is_due (record { slots = s; effect = Every (Signal signal.Grs); condition = Standing why }) k (placed U k)
+    ≡ (in_range t c r k && ((placed T k).equipped && is_standing (block_of why (placed T k).local)))
+grs_due t c r s why T U f e u k =
+    let due : Due = record { slots = s; effect = Every (Signal signal.Grs); condition = Standing why } in
+    ap (λ (V : List Circuit). is_due due k (placed V k)) u
+    ∙ due_after (moving (in_range t c r) (λ _. on_grs) []) due T (λ _ x. (grs_keeps x).equipped) (λ _ x. group_reset_stands why x) k
+    ∙ rw (f, e) (ap (λ (b : Bool). b && ((placed T k).equipped && is_standing (block_of why (placed T k).local))) (spans_at (c - t.first.0) r k))
+
+pub grs_groups : (t : Config) (c r : ℕ) (s : Slots) (T U : List Circuit)
+    → s.first.0 ≡ c - t.first.0
+    → s.group.range.0 ≡ r
+    → U ≡ table_of (moving (in_range t c r) (λ _. on_grs) []) T
+    → groups t Cgb Hardware (is_due (record { slots = s; effect = Every (Signal signal.Grs); condition = Standing Hardware })) U
+    ≡ groups t Cgb Hardware (λ k x. x.equipped && (in_range t c r k && is_standing x.local.hardware)) T
+grs_groups t c r s T U f e u =
+    groups_same t Cgb Hardware (is_due (record { slots = s; effect = Every (Signal signal.Grs); condition = Standing Hardware }))
+    (λ k x. x.equipped && (in_range t c r k && is_standing x.local.hardware)) U T
+    (λ k. grs_due t c r s Hardware T U f e u k ∙ swapped (in_range t c r k) (placed T k).equipped (is_standing (placed T k).local.hardware))
+
+-- the status of the answer
+pub grs_status : (t : Config) (c r : ℕ) (s : Slots) (T U : List Circuit) (x : ℕ)
+    → s.first.0 ≡ c - t.first.0
+    → s.group.range.0 ≡ r
+    → U ≡ table_of (moving (in_range t c r) (λ _. on_grs) []) T
+    → t.first.0 ≤ c
+    → r ≤ 31
+    → x ≡ due_bits (record { slots = s; effect = Every (Signal signal.Grs); condition = Standing Maintenance }) s.first.0 0 U
+    → take (octets_for r) (x % 256 ∷ x / 256 % 256 ∷ x / 65536 % 256 ∷ x / 16777216 % 256 ∷ []) ≡ status_by (λ n. shows (circuit_of t (as_cic (c + n)) T)) r
+grs_status t c r s T U x f e u l high is =
+    let due : Due = record { slots = s; effect = Every (Signal signal.Grs); condition = Standing Maintenance } in
+    status_is (λ n. leb 0 n && is_due due (s.first.0 + n) (placed U (s.first.0 + n))) (λ n. shows (circuit_of t (as_cic (c + n)) T)) r x high is
+    (λ n.
+    let at = c - t.first.0 in
+    let in_it : in_range t c r (s.first.0 + n) ≡ leb n r = rw f (sym (spans_at at r (at + n)) ∙ rw (le-leb at (at + n) (omega arith), minus at n) refl) in
+    let here : circuit_of t (as_cic (c + n)) T ≡ placed T (s.first.0 + n) = rw f (circuit_in t c n T l) in
+    rw (le-leb 0 n (omega arith), here) (grs_due t c r s Maintenance T U f e u (s.first.0 + n) ∙ rw in_it refl))
+  where
+    minus : (a b : ℕ) → a + b - a ≡ b
+    minus a b = omega arith

@@ -111,6 +111,8 @@ impl Trunk {
         ensures inside { IfOk result
             (λ slots. (self.config.first.0 ≤ cic.0)
             × (slots.first.0 + slots.group.range.0 < length table.now)) }
+        ensures group { IfOk result (λ slots. slots.group ≡ group.entry) }
+        ensures first { IfOk result (λ slots. slots.first.0 ≡ cic.0 - self.config.first.0) }
     {
         let Some(first) = self.place(cic) else {
             return Err(Refusal::Address);
