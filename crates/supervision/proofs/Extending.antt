@@ -16,9 +16,13 @@ use Rattle.told.specs.declared.kinds.Word.TheVariants.{Send, Alert}
 use Rattle.supervision.specs.declared.trunk.Config.{Config}
 use Rattle.supervision.specs.Expiring.{alerting}
 use Rattle.supervision.specs.Lending.{Lent, Performed, lent, over, carried}
-use Rattle.supervision.specs.Moves.{Move, where_named, told_from, sends_from, call_words, words_of, octets_of}
-use Rattle.supervision.specs.Receiving.{moving}
+use Rattle.supervision.specs.Moves.{Move, each_from, step_of, where_named, told_from, sends_from, call_words, words_of, octets_of}
+use Rattle.supervision.specs.Receiving.{moving, nothing}
 use Rattle.supervision.specs.Steps.{Stood, sending}
+use Rattle.circuit.specs.Changes.{quiet}
+use Rattle.supervision.proofs.Naming.{unnamed}
+use Rattle.supervision.proofs.Settling.{settled_same}
+use Rattle.supervision.proofs.Stepping.{Quiet, each_quiet, told-quiet}
 use Rattle.supervision.proofs.Writing.{push_at, more_at, length_over}
 
 flat-append : (xs ys : List Msg) → flat_map encode (xs ++ ys) ≡ flat_map encode xs ++ flat_map encode ys
@@ -135,4 +139,18 @@ stood_done t named rule T H W O table held words n (it, ih, iw, im) l =
       counts = rw (append-nil said, im) refl;
       carries = rw (it, ih, iw, append-nil said) refl;
       within = (l, omega arith);
+    }
+
+-- nothing is done
+pub nothing_done : (t : Config) (before : Lent) → Performed t nothing (0, 0) before before
+nothing_done t before =
+    let T = before.table in
+    let f = step_of nothing in
+    let q : Quiet f 0 (length T) = λ j _ _ c. unnamed (λ _. false) (λ _. quiet) j c refl in
+    let table : each_from f 0 T ≡ T = each_quiet f 0 T q in
+    let told : told_from t f 0 T ≡ [] = told-quiet t f 0 T q in
+    record {
+      counts = rw told refl;
+      carries = rw (table, told, settled_same before.held T) refl;
+      within = (omega arith, omega arith);
     }

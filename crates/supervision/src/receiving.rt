@@ -19,7 +19,6 @@ ghost use Rattle.supervision.specs.Trunks.{places};
 
 use crate::due::{Condition, Due};
 use crate::effects::{send, sweep};
-use crate::group::RANGE;
 use crate::slots::{Effect, Slots};
 use crate::trunk::{SLOTS, Trunk};
 use circuit::{Cause, Circuit, Reset, Rule, Signal};
@@ -310,7 +309,7 @@ impl Trunk {
         ensures policy { Tells P.Policy.obeys table.old table.new policy.old policy.new }
     {
         let slots = self.span(cic, group, table)?;
-        if slots.first.0 % SLOTS != 1 || group.range != RANGE {
+        if !slots.is_system() {
             return Ok((0, 0));
         }
         let told = sweep(self, slots, Effect::Acknowledged, table, policy, words);

@@ -1,5 +1,5 @@
 // Circuits of the table that a status names.
-ghost use Rattle.std.specs.Prelude.{◌≡◌, ◌+◌, ◌<◌, Bool, not, ◌&&◌, length, Ok};
+ghost use Rattle.std.specs.Prelude.{◌≡◌, ◌+◌, ◌%◌, ◌<◌, Bool, not, ◌&&◌, ◌==◌, length, Ok};
 ghost use Rattle.circuit.specs.Laws.{allows};
 ghost use Rattle.circuit.specs.Orders.{applied};
 ghost use Rattle.refusal.specs.Refusals.{unless};
@@ -8,6 +8,8 @@ ghost use Rattle.status.specs.Bits.{is_named};
 ghost use Rattle.supervision.specs.Moves.{some_from};
 ghost use Rattle.supervision.specs.Steps.{named_by, touched, rule_by};
 
+use crate::group::RANGE;
+use crate::trunk::SLOTS;
 use circuit::{Circuit, Rule, Signal};
 use policy::Place;
 use refusal::Refusal;
@@ -44,6 +46,14 @@ impl Slots<'_> {
                 status: &[],
             },
         }
+    }
+
+    // Whether they are a whole PCM system, from time slot 1 with range 30.
+    pub(crate) fn is_system(self) -> bool
+        ensures { result
+            ≡ (self.entry.first.0 % 32 == 1 && self.entry.group.range.0 == 30) }
+    {
+        self.first.0 % SLOTS == 1 && self.group.range == RANGE
     }
 
     // Whether they name the n-th circuit of the range.
