@@ -4,9 +4,11 @@ use Rattle.std.proofs.lemmas.Bool.{cases_Bool, cases_lt, false≢true, leb-true,
 use Rattle.status.specs.declared.circuit.Cic.{Cic}
 use Rattle.policy.specs.declared.interface.Place.{Place}
 use Rattle.message.specs.Meaning.{indicator_of}
-use Rattle.message.specs.Msg.{Msg, grouped}
+use Rattle.message.specs.Msg.{Msg, call, grouped}
 use Rattle.message.specs.declared.kinds.BlockType.{BlockType}
 use Rattle.message.specs.declared.kinds.BlockType.TheVariants.{Maintenance, Hardware}
+use Rattle.message.specs.declared.kinds.CallKind.{CallKind}
+use Rattle.message.specs.declared.kinds.CallKind.TheVariants.{Iam, Acm, Con, Anm, Cpg}
 use Rattle.message.specs.declared.kinds.Grouped.{Grouped}
 use Rattle.message.specs.declared.kinds.Grouped.TheVariants.{Cgb, Cgu, Cgba, Cgua}
 use Rattle.circuit.specs.Circuits.{block_of, is_none, is_standing}
@@ -19,6 +21,7 @@ use Rattle.circuit.specs.declared.signals.Signal.{Signal as Signals}
 use Rattle.circuit.specs.Signals.{on_block_ack, on_unblock_ack, on_rsc, on_grs}
 use Rattle.circuit.proofs.Keeping.{signal_keeps}
 use Rattle.status.specs.declared.group.Group.{Group}
+use Rattle.refusal.specs.declared.reasons.Refusal.{Refusal}
 use Rattle.refusal.specs.declared.reasons.Refusal.TheVariants.{Address}
 use Rattle.refusal.specs.Refusals.{unless}
 use Rattle.supervision.specs.declared.due.Condition.{Condition}
@@ -32,10 +35,10 @@ use Rattle.supervision.specs.Groups.{groups}
 use Rattle.supervision.specs.Laws.{Outcome}
 use Rattle.supervision.specs.Lending.{Lent, Performed}
 use Rattle.supervision.specs.Moves.{Move, some_from, table_of, where_named}
-use Rattle.supervision.specs.Receiving.{moving, is_range, marked, to_range, heard}
-use Rattle.supervision.specs.Replies.{signal_of}
+use Rattle.supervision.specs.Receiving.{as_cic, moving, to_one, is_range, marked, to_range, heard}
+use Rattle.supervision.specs.Replies.{call_signal, reply_to, signal_of}
 use Rattle.supervision.specs.Steps.{touched, sending}
-use Rattle.supervision.specs.Trunks.{places, place_of, placed}
+use Rattle.supervision.specs.Trunks.{controls, places, place_of, placed}
 use Rattle.supervision.proofs.Hearing.{heard_allowed}
 use Rattle.supervision.proofs.Keeping.{outcome_of, table_at}
 use Rattle.supervision.proofs.Allowing.{past_both}
@@ -168,3 +171,13 @@ reset_stands why x = search arith
 
 pub group_reset_stands : (why : BlockType) (x : Circuit) → holds (Standing why) (on_grs x).circuit ≡ holds (Standing why) x
 group_reset_stands why x = search arith
+
+-- a call message is one for one circuit
+pub call_outcome : (t : Config) (c : ℕ) (kind : CallKind) (body : List ℕ) (r : Result (ℕ × ℕ) Refusal) (before after : Lent)
+    → Outcome t (λ (b : Lent). to_one t c (applied (Signal (call_signal kind (controls t (as_cic c))))) (reply_to c (call_signal kind (controls t (as_cic c)))) b.table) r before after
+    → Outcome t (λ (b : Lent). heard t (call c kind body) b.table) r before after
+call_outcome t c Iam body r before after h = h
+call_outcome t c Acm body r before after h = h
+call_outcome t c Con body r before after h = h
+call_outcome t c Anm body r before after h = h
+call_outcome t c Cpg body r before after h = h

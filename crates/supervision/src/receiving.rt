@@ -12,7 +12,7 @@ ghost use Rattle.supervision.specs.Laws.{Outcome};
 ghost use Rattle.supervision.specs.Lending.{Suffices, lent};
 ghost use Rattle.supervision.specs.Moves.{some_from};
 ghost use Rattle.supervision.specs.Receiving.{to_one, is_range, is_counted, is_unexpected, marked, heard, receiving};
-ghost use Rattle.supervision.specs.Replies.{replied, reply_to, signal_of};
+ghost use Rattle.supervision.specs.Replies.{call_signal, replied, reply_to, signal_of};
 ghost use Rattle.supervision.specs.Steps.{sending, Extends};
 ghost use Rattle.supervision.specs.Telling.{Tells};
 ghost use Rattle.supervision.specs.Trunks.{places};
@@ -36,6 +36,16 @@ fn signal_of(what: Grouped, why: BlockType) -> Signal
         Grouped::Cgu => Signal::Unblock(why),
         Grouped::Cgba => Signal::BlockAck(why),
         Grouped::Cgua => Signal::UnblockAck(why),
+    }
+}
+
+// What a call message is to its circuit.
+fn call_signal(kind: CallKind, controlled: bool) -> Signal
+    ensures { result ≡ call_signal kind controlled }
+{
+    match kind {
+        CallKind::Iam => Signal::Iam(controlled),
+        CallKind::Acm | CallKind::Con | CallKind::Anm | CallKind::Cpg => Signal::Progress,
     }
 }
 
@@ -355,12 +365,9 @@ impl Trunk {
             Message::Release(cic, _) => {
                 self.hear_one(cic, Signal::Rel, table, policy, words, octets)
             }
-            Message::Call(cic, CallKind::Iam, _) => {
-                let signal = Signal::Iam(self.controls(cic));
+            Message::Call(cic, kind, _) => {
+                let signal = call_signal(kind, self.controls(cic));
                 self.hear_one(cic, signal, table, policy, words, octets)
-            }
-            Message::Call(cic, _, _) => {
-                self.hear_one(cic, Signal::Progress, table, policy, words, octets)
             }
             Message::Grouped(cic, what, why, group) => {
                 self.hear_group(cic, what, why, group, table, policy, words, octets)
