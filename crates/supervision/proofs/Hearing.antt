@@ -39,7 +39,7 @@ use Rattle.supervision.proofs.Allowing.{past, same_move, and_ok, singly_allowed}
 use Rattle.supervision.proofs.Keeping.{Allowed, lawful, quiet_keeps}
 
 -- a move that changes nothing
-nothing_allowed : (T : List Circuit) → Allowed nothing T
+pub nothing_allowed : (T : List Circuit) → Allowed nothing T
 nothing_allowed T k n e = quiet_keeps (placed T k)
 
 same_allowed : (x m : Move) (T : List Circuit) → ◌≡◌ {A = Result Move Refusal} (Ok x) (Ok m) → Allowed x T → Allowed m T
@@ -100,7 +100,7 @@ typed_allowed : (t : Config) (system kind : ℕ) (b : Bool) (x : Move) (T : List
 typed_allowed t system kind b x T m h e = system_allowed t system b x T m h (past (ltb 1 kind) Argument _ m e).1
 
 -- messages repeated change no circuit
-still : (sent : List Msg) (alert : Option (Timer × Cic)) (T : List Circuit) → Allowed (repeating sent alert) T
+pub still : (sent : List Msg) (alert : Option (Timer × Cic)) (T : List Circuit) → Allowed (repeating sent alert) T
 still sent alert T k n e = quiet_keeps (placed T k)
 
 one_repeated : (t : Config) (c : ℕ) (waits : Circuit → Bool) (message : Circuit → Msg) (alert : Option (Timer × Cic)) (T : List Circuit) (m : Move)
@@ -123,7 +123,7 @@ reset_repeated t system alert T m e =
     system_allowed t system (eqb (mask_by p system T) 0) (repeating sent alert) T m (still sent alert T) e
 
 -- T5 resets a releasing circuit
-given_up : (t : Config) (c : ℕ) (T : List Circuit) (m : Move) → gives_up t c T ≡ Ok m → Allowed m T
+pub given_up : (t : Config) (c : ℕ) (T : List Circuit) (m : Move) → gives_up t c T ≡ Ok m → Allowed m T
 given_up t c T m e =
     go (is_releasing (circuit_of t (as_cic c) T).call)
     (past (not (circuit_of t (as_cic c) T).equipped) Address _ m e).1

@@ -13,6 +13,7 @@ pub mod Masks
 pub mod Naming
 pub mod Passing
 pub mod Ranges
+pub mod Repeating
 pub mod Resets
 pub mod Settling
 pub mod Some

@@ -4,6 +4,7 @@
 mod addressing;
 mod due;
 mod effects;
+mod expiring;
 mod group;
 mod judging;
 mod opening;

@@ -1,0 +1,111 @@
+// Timers that expire: a message still waited for is repeated.
+ghost use Rattle.std.specs.Prelude.{◌≡◌, ◌≤◌, ◌<◌, ◌&&◌, List, [], ◌∷◌, Bool, not, cond, length, None, Option as Maybe, Ok, ◌==◌, nat_le};
+ghost use Rattle.circuit.specs.Circuits.{is_group};
+ghost use Rattle.message.specs.Encode.{encode, refusal_of};
+ghost use Rattle.message.specs.Meaning.{meaning};
+ghost use Rattle.message.specs.Msg.{single};
+ghost use Rattle.refusal.specs.Refusals.{unless};
+ghost use Rattle.refusal.specs.declared.reasons.Refusal.TheVariants.{Address};
+ghost use Rattle.supervision.specs.declared.trunk.Config.{Config as Numbers};
+ghost use Rattle.circuit.specs.declared.record.Circuit.{Circuit as Record};
+ghost use Rattle.supervision.specs.Due.{holds};
+ghost use Rattle.supervision.specs.Expiring.{repeating, repeats_one, repeats_reset, gives_up, expired, expiring};
+ghost use Rattle.supervision.specs.Groups.{mask_by, group_for};
+ghost use Rattle.supervision.specs.Laws.{Outcome};
+ghost use Rattle.supervision.specs.Lending.{Performed, Suffices, lent};
+ghost use Rattle.supervision.specs.Orders.{release_message};
+ghost use Rattle.supervision.specs.Receiving.{nothing};
+ghost use Rattle.supervision.specs.Telling.{Tells};
+ghost use Rattle.supervision.specs.Trunks.{places, first_of};
+
+use crate::due::{Condition, Due};
+use crate::effects::send;
+use crate::group::{RANGE, slots_of};
+use crate::sending::alert;
+use crate::slots::{Effect, Slots};
+use crate::trunk::Trunk;
+use circuit::{Circuit, Reset, Rule};
+use message::{BlockType, Grouped, Message, Single};
+use policy::{Place, Policy};
+use refusal::Refusal;
+use status::Cic;
+use told::Timer;
+
+// Sends a message once more, with the alert that there may be; how many words and octets that takes.
+fn repeat(
+    message: Message<'_>,
+    alerts: Option<(Timer, Cic)>,
+    words: &mut [u32],
+    octets: &mut [u8],
+) -> (usize, usize)
+    requires writable { refusal_of (meaning message) ≡ None }
+    requires words { 2 ≤ length words.old }
+    requires octets { length (encode (meaning message)) ≤ length octets.old }
+    requires short { length (encode (meaning message)) < 65536 }
+    ensures { (t : Numbers) (table : List Record) (held : List Bool)
+        → Performed t (repeating (meaning message.entry ∷ []) alerts) result
+        (lent table held words.old octets.old) (lent table held words.new octets.new) }
+{
+    let written = send(message, (0, 0), words, octets);
+    match alerts {
+        Some((timer, cic)) => alert(timer, cic, written, words),
+        None => written,
+    }
+}
+
+impl Trunk {
+    // A message for one circuit alone, where it is still waited for.
+    fn repeat_one(
+        self,
+        cic: Cic,
+        condition: Condition,
+        kind: Single,
+        alerts: Option<(Timer, Cic)>,
+        table: &[Circuit],
+        words: &mut [u32],
+        octets: &mut [u8],
+    ) -> Result<(usize, usize), Refusal>
+        requires table { length table.now ≡ places self.config }
+        requires words { 96 ≤ length words.old }
+        requires octets { 320 ≤ length octets.old }
+        ensures { (held : List Bool) → length table.now ≤ length held
+            → Outcome self.config
+            (λ before.
+            repeats_one self.config cic.0 (holds condition) (λ _. single cic.0 kind) alerts
+            before.table) result
+            (lent table.now held words.old octets.old) (lent table.now held words.new octets.new) }
+    {
+        let place = self.find_equipped(cic, table)?;
+        if !condition.holds(table[place.0]) {
+            return Ok((0, 0));
+        }
+        Ok(repeat(Message::Single(cic, kind), alerts, words, octets))
+    }
+
+    // Our release, with the cause that was kept.
+    fn repeat_release(
+        self,
+        cic: Cic,
+        table: &[Circuit],
+        words: &mut [u32],
+        octets: &mut [u8],
+    ) -> Result<(usize, usize), Refusal>
+        requires table { length table.now ≡ places self.config }
+        requires words { 96 ≤ length words.old }
+        requires octets { 320 ≤ length octets.old }
+        ensures { (held : List Bool) → length table.now ≤ length held
+            → Outcome self.config
+            (λ before.
+            repeats_one self.config cic.0 (holds Condition.Releasing)
+            (λ x. release_message cic.0 x.cause) None before.table) result
+            (lent table.now held words.old octets.old) (lent table.now held words.new octets.new) }
+    {
+        let place = self.find_equipped(cic, table)?;
+        let circuit = table[place.0];
+        if !Condition::Releasing.holds(circuit) {
+            return Ok((0, 0));
+        }
+        let cause = <[u8; 2]>::from(circuit.cause);
+        Ok(repeat(Message::Release(cic, &cause), None, words, octets))
+    }
+}
