@@ -1,5 +1,6 @@
 // Circuits for which a message is due, by what their records say.
-ghost use Rattle.std.specs.Prelude.{◌≡◌, ℕ, ◌+◌, ◌*◌, ◌<◌, ◌&&◌, nat_le};
+ghost use Rattle.std.specs.Prelude.{◌≡◌, ℕ, ◌+◌, ◌*◌, ◌/◌, ◌<◌, ◌&&◌, nat_le};
+ghost use Rattle.circuit.specs.declared.record.Circuit.{Circuit as Record};
 ghost use Rattle.supervision.specs.Due.{holds, is_due, due_bits};
 ghost use Rattle.supervision.specs.Groups.{mask_by};
 ghost use Rattle.supervision.specs.Trunks.{placed};
@@ -9,6 +10,7 @@ use crate::trunk::SLOTS;
 use circuit::{Call, Circuit, LocalBlock, Reset};
 use message::BlockType;
 use policy::Place;
+use status::{Group, Range};
 
 // What a record says of a circuit for which a message is due.
 #[derive(Clone, Copy)]
@@ -50,6 +52,26 @@ impl Condition {
 }
 
 impl Due<'_> {
+    // All circuits of a PCM system of which a condition holds.
+    pub(crate) fn of_system(system: usize, condition: Condition) -> Due<'static>
+        requires { system < 16 }
+        ensures { (k : ℕ) (x : Record) → k / 32 ≡ system
+            → is_due result k x ≡ (x.equipped && holds condition x) }
+    {
+        let slots = Slots {
+            first: Place(system * SLOTS),
+            group: Group {
+                range: Range(31),
+                status: &[],
+            },
+        };
+        Due {
+            slots,
+            effect: Effect::Acknowledged,
+            condition,
+        }
+    }
+
     // Whether the circuit at a place is one of them.
     fn is_at(self, place: Place, table: &[Circuit]) -> bool
         ensures { result ≡ is_due self.entry place.0 (placed table.now place.0) }

@@ -108,4 +108,102 @@ impl Trunk {
         let cause = <[u8; 2]>::from(circuit.cause);
         Ok(repeat(Message::Release(cic, &cause), None, words, octets))
     }
+
+    // Our group message of a type for the circuits of a PCM system that wait, where some do.
+    fn repeat_group(
+        self,
+        system: usize,
+        what: Grouped,
+        why: BlockType,
+        condition: Condition,
+        alerts: Option<(Timer, Cic)>,
+        table: &[Circuit],
+        words: &mut [u32],
+        octets: &mut [u8],
+    ) -> Result<(usize, usize), Refusal>
+        requires words { 96 ≤ length words.old }
+        requires octets { 320 ≤ length octets.old }
+        ensures { (held : List Bool) → length table.now ≤ length held
+            → Outcome self.config
+            (λ before.
+            unless (nat_le self.config.systems system) Address
+            (Ok
+            (cond (mask_by (λ _ x. x.equipped && holds condition x) system before.table == 0)
+            nothing
+            (repeating
+            (group_for self.config what why (λ _ x. x.equipped && holds condition x) system
+            before.table)
+            alerts)))) result
+            (lent table.now held words.old octets.old) (lent table.now held words.new octets.new) }
+    {
+        if system >= self.config.systems {
+            return Err(Refusal::Address);
+        }
+        let mask = Due::of_system(system, condition).mask(system, table);
+        if mask == 0 {
+            return Ok((0, 0));
+        }
+        let status = (mask / 2).to_le_bytes();
+        let slots = slots_of(system, &status);
+        let message = Message::Grouped(self.cic_at(slots.first), what, why, slots.group);
+        Ok(repeat(message, alerts, words, octets))
+    }
+
+    // A group reset, while some circuit of the PCM system waits for its answer.
+    fn repeat_group_reset(
+        self,
+        system: usize,
+        alerts: Option<(Timer, Cic)>,
+        table: &[Circuit],
+        words: &mut [u32],
+        octets: &mut [u8],
+    ) -> Result<(usize, usize), Refusal>
+        requires words { 96 ≤ length words.old }
+        requires octets { 320 ≤ length octets.old }
+        ensures { (held : List Bool) → length table.now ≤ length held
+            → Outcome self.config
+            (λ before. repeats_reset self.config system alerts before.table) result
+            (lent table.now held words.old octets.old) (lent table.now held words.new octets.new) }
+    {
+        if system >= self.config.systems {
+            return Err(Refusal::Address);
+        }
+        if Due::of_system(system, Condition::Group).mask(system, table) == 0 {
+            return Ok((0, 0));
+        }
+        let message = Message::GroupReset(self.cic_at(slots_of(system, &[]).first), RANGE);
+        Ok(repeat(message, alerts, words, octets))
+    }
+
+    // T5: a releasing circuit is reset, where that may be ordered, with an alert.
+    fn give_up<P: Policy>(
+        self,
+        cic: Cic,
+        table: &mut [Circuit],
+        policy: &mut P,
+        words: &mut [u32],
+        octets: &mut [u8],
+    ) -> Result<(usize, usize), Refusal>
+        requires enough { Suffices self.config P.Policy.PLACES
+            (lent table.old (P.Policy.held policy.old) words.old octets.old) }
+        ensures outcome { Outcome self.config
+            (λ before. gives_up self.config cic.0 before.table) result
+            (lent table.old (P.Policy.held policy.old) words.old octets.old)
+            (lent table.new (P.Policy.held policy.new) words.new octets.new) }
+        ensures policy { Tells P.Policy.obeys table.old table.new policy.old policy.new }
+    {
+        let place = self.find_equipped(cic, table)?;
+        let circuit = table[place.0];
+        if !Condition::Releasing.holds(circuit) {
+            return Ok((0, 0));
+        }
+        let rule = Rule::Reset(Reset::Single);
+        if !rule.allows(circuit) {
+            return Err(Refusal::State);
+        }
+        let message = Message::Single(cic, Single::Rsc);
+        let told = self.change_at(place, rule, table, policy, words);
+        let written = send(message, (told, 0), words, octets);
+        Ok(alert(Timer::T5, cic, written, words))
+    }
 }

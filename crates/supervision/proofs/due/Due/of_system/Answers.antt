@@ -1,0 +1,7 @@
+use Rattle.std.proofs.Common.{◌≡◌, ◌+◌, ◌-◌, ◌*◌, ◌&&◌, leb, refl, arith}
+use Rattle.std.proofs.lemmas.Bool.{le-leb}
+use Rattle.supervision.proofs.due.Due.of_system.Goals as goal
+
+pub returns : goal.returns
+returns c = λ k x e.
+    rw (le-leb (c.args.system * 32) k (omega (arith, e)), le-leb (k - c.args.system * 32) 31 (omega (arith, e))) refl

@@ -1,0 +1,40 @@
+use Rattle.std.proofs.Common.{◌≡◌, ℕ, ◌+◌, ◌*◌, Bool, false, ◌&&◌, eqb, leb, List, [], ◌∷◌, length, Ok, sym, refl, ap, ◌∙◌, subst, add_assoc, arith}
+use Rattle.std.proofs.lemmas.Bool.{ne_eqb, lt-leb}
+use Rattle.message.specs.Msg.{Msg, group_reset}
+use Rattle.circuit.specs.Circuits.{is_group}
+use Rattle.circuit.specs.declared.record.Circuit.{Circuit}
+use Rattle.supervision.specs.Due.{is_due}
+use Rattle.supervision.specs.Expiring.{repeating, repeats_reset}
+use Rattle.supervision.specs.Groups.{mask_by}
+use Rattle.supervision.specs.Lending.{Lent, Performed, lent}
+use Rattle.supervision.specs.Orders.{reset_message}
+use Rattle.supervision.specs.Trunks.{first_of, placed}
+use Rattle.supervision.proofs.Repeating.{outcome_nothing, outcome_repeated}
+use Rattle.supervision.proofs.Systems.{mask_same}
+use Rattle.supervision.proofs.trunk.Trunk.repeat_group_reset.Goals as goal
+
+pub returns-then-mask-eq0 : goal.returns-then-mask-eq0
+returns-then-mask-eq0 c = λ H l.
+    let t = c.args.self.config in
+    let T = c.args.table.now in
+    let p = λ (_ : ℕ) (x : Circuit). x.equipped && is_group x.reset in
+    let zero : mask_by p c.args.system T ≡ 0 =
+    sym (mask_same (is_due c.of_system.result) p c.args.system T T (λ k e. c.of_system.ensures k (placed T k) e)) ∙ (sym c.mask.ensures ∙ c.if-mask-eq0.true) in
+    outcome_nothing t (λ (b : Lent). repeats_reset t c.args.system c.args.alerts b.table) (lent T H c.args.words.now c.args.octets.now) l
+    (rw (lt-leb t.systems c.args.system (omega (arith, c.if-system-self.false)), zero) refl)
+
+pub returns : goal.returns
+returns c = λ H l.
+    let t = c.args.self.config in
+    let T = c.args.table.now in
+    let system = c.args.system in
+    let p = λ (_ : ℕ) (x : Circuit). x.equipped && is_group x.reset in
+    let is : c.mask.result ≡ mask_by p system T = c.mask.ensures ∙ mask_same (is_due c.of_system.result) p system T T (λ k e. c.of_system.ensures k (placed T k) e) in
+    let some : eqb (mask_by p system T) 0 ≡ false = ne_eqb (mask_by p system T) 0 (λ e. c.if-mask-eq0.false (is ∙ e)) in
+    let before = lent T H c.args.words.now c.args.octets.now in
+    let after = lent T H c.repeat.new.words c.repeat.new.octets in
+    let same : group_reset (t.first.0 + (system * 32 + 1)) 30 ≡ reset_message t system = rw (add_assoc t.first.0 (system * 32) 1) refl in
+    let done = rw (c.cic_at.ensures, c.slots_of.ensures.first) at (c.repeat.ensures t T H) in
+    outcome_repeated t (λ (b : Lent). repeats_reset t system c.args.alerts b.table) (reset_message t system ∷ []) c.args.alerts c.repeat.result before after l
+    (rw (lt-leb t.systems system (omega (arith, c.if-system-self.false)), some) refl)
+    (subst (λ (x : Msg). Performed t (repeating (x ∷ []) c.args.alerts) c.repeat.result before after) same done)
