@@ -1,6 +1,6 @@
 -- Messages for a range: what is answered, what is due after their effect, and their whole outcome.
-use Rattle.std.proofs.Common.{◌≡◌, ℕ, ◌+◌, ◌-◌, ◌*◌, ◌<◌, ◌≤◌, Bool, true, false, cond, not, ◌&&◌, leb, ltb, eqb, List, [], ◌∷◌, ◌++◌, length, Some, None, Ok, Err, Option, Result, sym, refl, ap, ◌∙◌, subst, ⊎_elim, arith}
-use Rattle.std.proofs.lemmas.Bool.{cases_Bool, cases_lt, false≢true, leb-true, leb-false, le-leb, lt-ltb, lt-leb, and_left, and_right, and_parts}
+use Rattle.std.proofs.Common.{◌≡◌, ℕ, ◌+◌, ◌-◌, ◌*◌, ◌<◌, ◌≤◌, Bool, true, false, cond, not, ◌&&◌, leb, ltb, List, [], ◌∷◌, length, Some, None, Ok, Option, Result, refl, ap, ◌∙◌, subst, ⊎_elim, arith}
+use Rattle.std.proofs.lemmas.Bool.{cases_Bool, leb-true, le-leb, lt-ltb, and_parts}
 use Rattle.status.specs.declared.circuit.Cic.{Cic}
 use Rattle.policy.specs.declared.interface.Place.{Place}
 use Rattle.message.specs.Meaning.{indicator_of}
@@ -14,7 +14,6 @@ use Rattle.message.specs.declared.kinds.Grouped.TheVariants.{Cgb, Cgu, Cgba, Cgu
 use Rattle.circuit.specs.Circuits.{block_of, is_none, is_standing}
 use Rattle.circuit.specs.Orders.{applied}
 use Rattle.circuit.specs.declared.record.Circuit.{Circuit}
-use Rattle.circuit.specs.declared.rules.Change.{Change}
 use Rattle.circuit.specs.declared.rules.Rule.{Rule}
 use Rattle.circuit.specs.declared.rules.Rule.TheVariants.{Signal}
 use Rattle.circuit.specs.declared.signals.Signal.{Signal as Signals}
@@ -34,7 +33,7 @@ use Rattle.supervision.specs.Due.{holds, is_due}
 use Rattle.supervision.specs.Groups.{groups}
 use Rattle.supervision.specs.Laws.{Outcome}
 use Rattle.supervision.specs.Lending.{Lent, Performed}
-use Rattle.supervision.specs.Moves.{Move, some_from, table_of, where_named}
+use Rattle.supervision.specs.Moves.{Move, some_from, table_of}
 use Rattle.supervision.specs.Receiving.{as_cic, moving, to_one, is_range, marked, to_range, heard}
 use Rattle.supervision.specs.Replies.{call_signal, reply_to, signal_of}
 use Rattle.supervision.specs.Steps.{touched, sending}

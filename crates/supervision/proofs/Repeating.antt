@@ -1,16 +1,17 @@
 -- What an expiry promises: nothing is done where nothing is waited for, else the message is sent once more.
-use Rattle.std.proofs.Common.{◌≡◌, ℕ, ◌≤◌, Bool, true, false, cond, not, List, [], ◌∷◌, length, Ok, Option, Result, refl}
+use Rattle.std.proofs.Common.{◌≡◌, ℕ, ◌≤◌, Bool, true, false, List, [], ◌∷◌, length, Some, Ok, Option, Result, refl}
 use Rattle.status.specs.declared.circuit.Cic.{Cic}
 use Rattle.message.specs.Msg.{Msg}
 use Rattle.circuit.specs.declared.record.Circuit.{Circuit}
+use Rattle.told.specs.Words.{timer_of}
 use Rattle.told.specs.declared.kinds.Timer.{Timer}
 use Rattle.refusal.specs.declared.reasons.Refusal.{Refusal}
 use Rattle.supervision.specs.declared.trunk.Config.{Config}
-use Rattle.supervision.specs.Expiring.{repeating, repeats_one}
+use Rattle.supervision.specs.Expiring.{expired, expiring, repeating, repeats_one}
 use Rattle.supervision.specs.Laws.{Outcome}
 use Rattle.supervision.specs.Lending.{Lent, Performed}
 use Rattle.supervision.specs.Moves.{Move}
-use Rattle.supervision.specs.Orders.{circuit_of}
+use Rattle.supervision.specs.Orders.{admitted, circuit_of}
 use Rattle.supervision.specs.Receiving.{as_cic, nothing}
 use Rattle.supervision.proofs.Extending.{nothing_done}
 use Rattle.supervision.proofs.Hearing.{still, nothing_allowed}
@@ -41,3 +42,12 @@ pub one_repeated : (t : Config) (c : ℕ) (waits : Circuit → Bool) (message : 
     → Outcome t (λ (b : Lent). repeats_one t c waits message alert b.table) (Ok n) l l'
 one_repeated t c waits message alert n l l' h q w p =
     outcome_repeated t (λ (b : Lent). repeats_one t c waits message alert b.table) (message (circuit_of t (as_cic c) l.table) ∷ []) alert n l l' h (rw (q, w) refl) p
+
+-- an answer that is another's at what is lent
+pub outcome_as : (t : Config) (f g : Lent → Result Move Refusal) (r : Result (ℕ × ℕ) Refusal) (l l' : Lent) → f l ≡ g l → Outcome t g r l l' → Outcome t f r l l'
+outcome_as t f g r l l' e o = record { done = rw e o.done; laws = rw e o.laws; within = o.within }
+
+-- an expiry after the tests that every operation makes
+pub expiring_at : (t : Config) (room timer : ℕ) (x : Timer) (at kind : ℕ) (l : Lent) → Ok tt ≡ admitted t room l → Some x ≡ timer_of timer
+    → expiring t room timer at kind l ≡ expired t x at kind l.table
+expiring_at t room timer x at kind l a e = rw (← a, ← e) refl

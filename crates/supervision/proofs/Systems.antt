@@ -1,6 +1,6 @@
 -- Messages added to what was written, and which PCM systems have one.
-use Rattle.std.proofs.Common.{◌≡◌, ℕ, zero, suc, ◌+◌, ◌*◌, ◌/◌, ◌<◌, ◌≤◌, Bool, true, false, ◌&&◌, ltb, List, [], ◌∷◌, ◌++◌, sym, refl, ap, ◌∙◌, subst, append_assoc, arith}
-use Rattle.std.proofs.lemmas.Bool.{and_left, and_right}
+use Rattle.std.proofs.Common.{◌≡◌, ℕ, zero, suc, ◌+◌, ◌*◌, ◌/◌, ◌<◌, ◌≤◌, Bool, false, ◌&&◌, ltb, List, [], ◌++◌, sym, refl, ap, ◌∙◌, subst, append_assoc, arith}
+use Rattle.std.proofs.lemmas.Bool.{and_right}
 use Rattle.std.proofs.lemmas.List.{append-nil}
 use Rattle.message.specs.Msg.{Msg}
 use Rattle.message.specs.declared.kinds.BlockType.{BlockType}
@@ -9,7 +9,6 @@ use Rattle.circuit.specs.declared.record.Circuit.{Circuit}
 use Rattle.supervision.specs.declared.trunk.Config.{Config}
 use Rattle.supervision.specs.Groups.{bits_below, mask_by, group_for, groups_below, groups}
 use Rattle.supervision.specs.Lending.{Performed, lent}
-use Rattle.supervision.specs.Moves.{Move}
 use Rattle.supervision.specs.Steps.{sending, Extends}
 use Rattle.supervision.specs.Trunks.{placed}
 use Rattle.supervision.proofs.Bits.{bits_same}

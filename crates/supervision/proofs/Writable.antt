@@ -1,5 +1,5 @@
 -- Messages that may be written: their CICs fit, and they keep sizes and limits.
-use Rattle.std.proofs.Common.{◌≡◌, ℕ, ◌+◌, ◌*◌, ◌≤◌, true, eqb, leb, List, length, None, refl, arith}
+use Rattle.std.proofs.Common.{◌≡◌, ℕ, ◌+◌, ◌≤◌, true, leb, List, length, None, refl, arith}
 use Rattle.std.proofs.lemmas.Bool.{eq-eqb, le-leb}
 use Rattle.status.specs.Bits.{octets_for, set_bits}
 use Rattle.status.proofs.Bits.{set_few}

@@ -3,13 +3,13 @@ ghost use Rattle.std.specs.Prelude.{◌≡◌, ◌≤◌, ◌<◌, ◌&&◌, Lis
 ghost use Rattle.circuit.specs.Circuits.{is_group};
 ghost use Rattle.message.specs.Encode.{encode, refusal_of};
 ghost use Rattle.message.specs.Meaning.{meaning};
-ghost use Rattle.message.specs.Msg.{single};
+ghost use Rattle.message.specs.Msg.{cic_in, single};
 ghost use Rattle.refusal.specs.Refusals.{unless};
 ghost use Rattle.refusal.specs.declared.reasons.Refusal.TheVariants.{Address};
 ghost use Rattle.supervision.specs.declared.trunk.Config.{Config as Numbers};
 ghost use Rattle.circuit.specs.declared.record.Circuit.{Circuit as Record};
-ghost use Rattle.supervision.specs.Due.{holds};
-ghost use Rattle.supervision.specs.Expiring.{repeating, repeats_one, repeats_reset, gives_up, expired, expiring};
+ghost use Rattle.supervision.specs.Due.{alert_for, holds, waits_for};
+ghost use Rattle.supervision.specs.Expiring.{repeating, repeats_group, repeats_one, repeats_reset, gives_up, expired, expiring};
 ghost use Rattle.supervision.specs.Groups.{mask_by, group_for};
 ghost use Rattle.supervision.specs.Laws.{Outcome};
 ghost use Rattle.supervision.specs.Lending.{Performed, Suffices, lent};
@@ -34,7 +34,7 @@ use told::Timer;
 // Sends a message once more, with the alert that there may be; how many words and octets that takes.
 fn repeat(
     message: Message<'_>,
-    alerts: Option<(Timer, Cic)>,
+    timer: Option<Timer>,
     words: &mut [u32],
     octets: &mut [u8],
 ) -> (usize, usize)
@@ -43,12 +43,14 @@ fn repeat(
     requires octets { length (encode (meaning message)) ≤ length octets.old }
     requires short { length (encode (meaning message)) < 65536 }
     ensures { (t : Numbers) (table : List Record) (held : List Bool)
-        → Performed t (repeating (meaning message.entry ∷ []) alerts) result
+        → Performed t
+        (repeating (meaning message.entry ∷ []) (alert_for timer (cic_in (meaning message.entry))))
+        result
         (lent table held words.old octets.old) (lent table held words.new octets.new) }
 {
     let written = send(message, (0, 0), words, octets);
-    match alerts {
-        Some((timer, cic)) => alert(timer, cic, written, words),
+    match timer {
+        Some(timer) => alert(timer, message.cic(), written, words),
         None => written,
     }
 }
@@ -60,7 +62,7 @@ impl Trunk {
         cic: Cic,
         condition: Condition,
         kind: Single,
-        alerts: Option<(Timer, Cic)>,
+        timer: Option<Timer>,
         table: &[Circuit],
         words: &mut [u32],
         octets: &mut [u8],
@@ -71,7 +73,8 @@ impl Trunk {
         ensures { (held : List Bool) → length table.now ≤ length held
             → Outcome self.config
             (λ before.
-            repeats_one self.config cic.0 (holds condition) (λ _. single cic.0 kind) alerts
+            repeats_one self.config cic.0 (holds condition) (λ _. single cic.0 kind)
+            (alert_for timer cic.0)
             before.table) result
             (lent table.now held words.old octets.old) (lent table.now held words.new octets.new) }
     {
@@ -79,7 +82,7 @@ impl Trunk {
         if !condition.holds(table[place.0]) {
             return Ok((0, 0));
         }
-        Ok(repeat(Message::Single(cic, kind), alerts, words, octets))
+        Ok(repeat(Message::Single(cic, kind), timer, words, octets))
     }
 
     // Our release, with the cause that was kept.
@@ -116,7 +119,7 @@ impl Trunk {
         what: Grouped,
         why: BlockType,
         condition: Condition,
-        alerts: Option<(Timer, Cic)>,
+        timer: Option<Timer>,
         table: &[Circuit],
         words: &mut [u32],
         octets: &mut [u8],
@@ -133,7 +136,7 @@ impl Trunk {
             (repeating
             (group_for self.config what why (λ _ x. x.equipped && holds condition x) system
             before.table)
-            alerts)))) result
+            (alert_for timer (first_of self.config system)))))) result
             (lent table.now held words.old octets.old) (lent table.now held words.new octets.new) }
     {
         if system >= self.config.systems {
@@ -146,14 +149,14 @@ impl Trunk {
         let status = (mask / 2).to_le_bytes();
         let slots = slots_of(system, &status);
         let message = Message::Grouped(self.cic_at(slots.first), what, why, slots.group);
-        Ok(repeat(message, alerts, words, octets))
+        Ok(repeat(message, timer, words, octets))
     }
 
     // A group reset, while some circuit of the PCM system waits for its answer.
     fn repeat_group_reset(
         self,
         system: usize,
-        alerts: Option<(Timer, Cic)>,
+        timer: Option<Timer>,
         table: &[Circuit],
         words: &mut [u32],
         octets: &mut [u8],
@@ -162,7 +165,9 @@ impl Trunk {
         requires octets { 320 ≤ length octets.old }
         ensures { (held : List Bool) → length table.now ≤ length held
             → Outcome self.config
-            (λ before. repeats_reset self.config system alerts before.table) result
+            (λ before.
+            repeats_reset self.config system (alert_for timer (first_of self.config system))
+            before.table) result
             (lent table.now held words.old octets.old) (lent table.now held words.new octets.new) }
     {
         if system >= self.config.systems {
@@ -172,7 +177,7 @@ impl Trunk {
             return Ok((0, 0));
         }
         let message = Message::GroupReset(self.cic_at(slots_of(system, &[]).first), RANGE);
-        Ok(repeat(message, alerts, words, octets))
+        Ok(repeat(message, timer, words, octets))
     }
 
     // T5: a releasing circuit is reset, where that may be ordered, with an alert.
@@ -205,5 +210,78 @@ impl Trunk {
         let told = self.change_at(place, rule, table, policy, words);
         let written = send(message, (told, 0), words, octets);
         Ok(alert(Timer::T5, cic, written, words))
+    }
+
+    // A group message of a type, given as its number: of blocks that are asked, or of blocks that are lifting.
+    fn repeat_blocks(
+        self,
+        system: usize,
+        kind: u8,
+        what: Grouped,
+        timer: Option<Timer>,
+        table: &[Circuit],
+        words: &mut [u32],
+        octets: &mut [u8],
+    ) -> Result<(usize, usize), Refusal>
+        requires words { 96 ≤ length words.old }
+        requires octets { 320 ≤ length octets.old }
+        ensures { (held : List Bool) → length table.now ≤ length held
+            → Outcome self.config
+            (λ before.
+            repeats_group self.config system kind what (waits_for what)
+            (alert_for timer (first_of self.config system)) before.table) result
+            (lent table.now held words.old octets.old) (lent table.now held words.new octets.new) }
+    {
+        let why = BlockType::try_from(kind).map_err(|_| Refusal::Argument)?;
+        let condition = match what {
+            Grouped::Cgb | Grouped::Cgba => Condition::Asked(why),
+            Grouped::Cgu | Grouped::Cgua => Condition::Lifting(why),
+        };
+        self.repeat_group(system, what, why, condition, timer, table, words, octets)
+    }
+
+    // A timer expires, for a CIC or a PCM system as the timer asks, and a type where it has one.
+    pub fn expire<P: Policy>(
+        self,
+        timer: u8,
+        at: u16,
+        kind: u8,
+        table: &mut [Circuit],
+        policy: &mut P,
+        words: &mut [u32],
+        octets: &mut [u8],
+    ) -> Result<(usize, usize), Refusal>
+        ensures outcome { Outcome self.config
+            (expiring self.config P.Policy.PLACES timer at kind) result
+            (lent table.old (P.Policy.held policy.old) words.old octets.old)
+            (lent table.new (P.Policy.held policy.new) words.new octets.new) }
+        ensures policy { Tells P.Policy.obeys table.old table.new policy.old policy.new }
+    {
+        self.admit(table, policy, words, octets)?;
+        let Ok(timer) = Timer::try_from(u32::from(timer)) else {
+            return Err(Refusal::Argument);
+        };
+        let (cic, system) = (Cic(at), at as usize);
+        let asked = Condition::Asked(BlockType::Maintenance);
+        let lifting = Condition::Lifting(BlockType::Maintenance);
+        let reset = Condition::Single;
+        let (block, unblock) = (Grouped::Cgb, Grouped::Cgu);
+        let alerts = Some(timer);
+        match timer {
+            Timer::T1 => self.repeat_release(cic, table, words, octets),
+            Timer::T5 => self.give_up(cic, table, policy, words, octets),
+            Timer::T12 => self.repeat_one(cic, asked, Single::Blo, None, table, words, octets),
+            Timer::T13 => self.repeat_one(cic, asked, Single::Blo, alerts, table, words, octets),
+            Timer::T14 => self.repeat_one(cic, lifting, Single::Ubl, None, table, words, octets),
+            Timer::T15 => self.repeat_one(cic, lifting, Single::Ubl, alerts, table, words, octets),
+            Timer::T16 => self.repeat_one(cic, reset, Single::Rsc, None, table, words, octets),
+            Timer::T17 => self.repeat_one(cic, reset, Single::Rsc, alerts, table, words, octets),
+            Timer::T18 => self.repeat_blocks(system, kind, block, None, table, words, octets),
+            Timer::T19 => self.repeat_blocks(system, kind, block, alerts, table, words, octets),
+            Timer::T20 => self.repeat_blocks(system, kind, unblock, None, table, words, octets),
+            Timer::T21 => self.repeat_blocks(system, kind, unblock, alerts, table, words, octets),
+            Timer::T22 => self.repeat_group_reset(system, None, table, words, octets),
+            Timer::T23 => self.repeat_group_reset(system, alerts, table, words, octets),
+        }
     }
 }

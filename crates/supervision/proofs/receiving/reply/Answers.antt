@@ -1,5 +1,4 @@
-use Rattle.std.proofs.Common.{◌≡◌, List, [], ◌∷◌, subst}
-use Rattle.message.specs.Meaning.{meaning}
+use Rattle.std.proofs.Common.{List, subst}
 use Rattle.message.specs.Msg.{Msg}
 use Rattle.supervision.specs.Steps.{sending, Extends}
 use Rattle.supervision.proofs.receiving.reply.Goals as goal

@@ -1,4 +1,4 @@
-use Rattle.std.proofs.Common.{◌≡◌, ℕ, suc, ◌+◌, Bool, true, false, ◌&&◌, leb, refl, ◌∙◌, arith}
+use Rattle.std.proofs.Common.{◌≡◌, ℕ, suc, ◌+◌, Bool, true, false, ◌&&◌, leb, refl, arith}
 use mir.Val.{bool_byte}
 use Rattle.supervision.specs.Due.{is_due}
 use Rattle.supervision.specs.Trunks.{placed}

@@ -1,4 +1,4 @@
-use Rattle.std.proofs.Common.{◌≡◌, ℕ, ◌+◌, ◌*◌, ◌&&◌, leb, ltb, zero, suc, refl, ap, ◌∙◌, arith}
+use Rattle.std.proofs.Common.{◌≡◌, ℕ, ◌+◌, ◌*◌, ◌&&◌, leb, ltb, ap, ◌∙◌, arith}
 use Rattle.supervision.specs.Due.{is_due}
 use Rattle.supervision.specs.Trunks.{placed}
 use Rattle.supervision.proofs.Bits.{bits_same}

@@ -1,4 +1,4 @@
-use Rattle.std.proofs.Common.{◌≡◌, ◌+◌, ◌-◌, ◌*◌, ◌&&◌, leb, refl, arith}
+use Rattle.std.proofs.Common.{◌-◌, ◌*◌, refl, arith}
 use Rattle.std.proofs.lemmas.Bool.{le-leb}
 use Rattle.supervision.proofs.due.Due.of_system.Goals as goal
 

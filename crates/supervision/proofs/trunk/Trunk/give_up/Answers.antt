@@ -1,4 +1,4 @@
-use Rattle.std.proofs.Common.{◌≡◌, ℕ, ◌-◌, true, false, eqb, [], ◌∷◌, not, Ok, sym, refl, ap, ◌∙◌}
+use Rattle.std.proofs.Common.{◌≡◌, ◌-◌, true, false, eqb, [], ◌∷◌, Ok, sym, refl, ◌∙◌}
 use Rattle.message.specs.Msg.{single}
 use Rattle.message.specs.declared.kinds.Single.TheVariants.{Rsc}
 use Rattle.circuit.specs.Circuits.{is_releasing}
@@ -9,8 +9,8 @@ use Rattle.circuit.specs.declared.rules.Rule.TheVariants.{Reset}
 use Rattle.told.specs.declared.kinds.Timer.TheVariants.{T5}
 use Rattle.supervision.specs.Expiring.{alerting, alert_at, gives_up}
 use Rattle.supervision.specs.Lending.{Lent, lent}
-use Rattle.supervision.specs.Orders.{circuit_of, only, ordered, singly}
-use Rattle.supervision.specs.Receiving.{as_cic, moving}
+use Rattle.supervision.specs.Orders.{circuit_of, only, ordered}
+use Rattle.supervision.specs.Receiving.{moving}
 use Rattle.supervision.specs.Steps.{sending}
 use Rattle.supervision.specs.Trunks.{placed}
 use Rattle.supervision.proofs.Allowing.{at_place}

@@ -1,11 +1,8 @@
-use Rattle.std.proofs.Common.{◌≡◌, ℕ, ◌+◌, ◌-◌, Bool, not, ◌&&◌, ◌≤◌, List, [], ◌∷◌, length, refl, sym, ap, ◌∙◌, subst, arith}
+use Rattle.std.proofs.Common.{◌≡◌, ℕ, ◌-◌, not, ◌&&◌, [], ◌∷◌, refl, ap, ◌∙◌}
 use Rattle.message.specs.Meaning.{indicator_of}
-use Rattle.message.specs.Msg.{Msg, grouped}
-use Rattle.message.specs.declared.kinds.BlockType.{BlockType}
-use Rattle.message.specs.declared.kinds.Grouped.{Grouped}
+use Rattle.message.specs.Msg.{grouped}
 use Rattle.message.specs.declared.kinds.Grouped.TheVariants.{Cgb, Cgu, Cgba, Cgua}
 use Rattle.circuit.specs.Orders.{applied}
-use Rattle.circuit.specs.declared.record.Circuit.{Circuit}
 use Rattle.circuit.specs.declared.rules.Rule.TheVariants.{Signal}
 use Rattle.supervision.specs.Lending.{Lent, lent}
 use Rattle.supervision.specs.Moves.{some_from, table_of}
@@ -16,7 +13,6 @@ use Rattle.supervision.specs.Groups.{groups}
 use Rattle.supervision.specs.declared.due.Condition.TheVariants.{Unblocked, Standing}
 use Rattle.supervision.specs.declared.slots.Effect.TheVariants.{Marked}
 use Rattle.supervision.specs.Replies.{signal_of}
-use Rattle.supervision.specs.Trunks.{placed}
 use Rattle.supervision.proofs.Ranges.{spans, due_group, group_outcome, signal_equips, ack_unblocked, unlock_stands}
 use Rattle.supervision.proofs.trunk.Trunk.hear_group.Goals as goal
 

@@ -1,9 +1,8 @@
-use Rattle.std.proofs.Common.{◌≡◌, ℕ, ◌+◌, ◌-◌, ◌≤◌, List, [], ◌∷◌, ◌++◌, not, ◌&&◌, length, take, true, Ok, sym, refl, ap, ◌∙◌, subst, Bool, arith}
+use Rattle.std.proofs.Common.{◌≡◌, ℕ, ◌+◌, List, [], ◌∷◌, ◌++◌, not, ◌&&◌, take, sym, refl, ap, ◌∙◌, subst, Bool, arith}
 use Rattle.std.proofs.lemmas.List.{length-take-le}
-use Rattle.status.specs.Bits.{octets_for}
 use Rattle.status.specs.declared.group.Group.{Group}
 use Rattle.message.specs.Msg.{Msg, group_reset, group_reset_ack}
-use Rattle.message.specs.declared.kinds.BlockType.TheVariants.{Maintenance, Hardware}
+use Rattle.message.specs.declared.kinds.BlockType.TheVariants.{Hardware}
 use Rattle.message.specs.declared.kinds.Grouped.TheVariants.{Cgb}
 use Rattle.circuit.specs.Circuits.{is_standing}
 use Rattle.circuit.specs.Signals.{on_grs}
@@ -17,9 +16,8 @@ use Rattle.supervision.specs.Groups.{groups, status_by}
 use Rattle.supervision.specs.Lending.{Lent, Performed, lent}
 use Rattle.supervision.specs.Moves.{some_from, table_of}
 use Rattle.supervision.specs.Orders.{circuit_of}
-use Rattle.supervision.specs.Receiving.{as_cic, moving, is_range, in_range, marked, shows, heard}
-use Rattle.supervision.specs.Steps.{sending, spanned}
-use Rattle.supervision.specs.Trunks.{placed}
+use Rattle.supervision.specs.Receiving.{as_cic, moving, is_range, in_range, marked, shows}
+use Rattle.supervision.specs.Steps.{sending}
 use Rattle.supervision.proofs.Ranges.{spans, range_outcome}
 use Rattle.supervision.proofs.Resets.{reset_limits, spans_range, grs_groups, grs_status}
 use Rattle.supervision.proofs.Writable.{own_reset_ack}

@@ -1,11 +1,10 @@
-use Rattle.std.proofs.Common.{◌≡◌, ℕ, ◌-◌, ◌%◌, Bool, true, false, cond, not, ◌&&◌, eqb, [], Ok, refl, sym, ap, ◌∙◌, subst}
-use Rattle.std.proofs.lemmas.Bool.{not-false, not-true}
+use Rattle.std.proofs.Common.{◌≡◌, ℕ, ◌-◌, Bool, true, false, not, ◌&&◌, [], refl, sym, ap, ◌∙◌, subst}
 use Rattle.status.specs.Bits.{is_named}
 use Rattle.status.specs.declared.group.Group.{Group}
 use Rattle.message.specs.Msg.{group_reset_ack}
 use Rattle.circuit.specs.Signals.{on_gra}
 use Rattle.supervision.specs.Lending.{Performed, lent}
-use Rattle.supervision.specs.Moves.{Move, some_from}
+use Rattle.supervision.specs.Moves.{some_from}
 use Rattle.supervision.specs.Receiving.{moving, nothing, is_range, in_range, is_counted, marked}
 use Rattle.supervision.proofs.Extending.{nothing_done}
 use Rattle.supervision.proofs.Ranges.{spans, range_outcome}

@@ -1,10 +1,10 @@
-use Rattle.std.proofs.Common.{◌≡◌, ℕ, ◌-◌, eqb, [], not, Ok, refl, arith}
+use Rattle.std.proofs.Common.{◌≡◌, ℕ, ◌-◌, eqb, [], refl}
 use Rattle.circuit.specs.Orders.{applied}
 use Rattle.circuit.specs.declared.rules.Rule.TheVariants as rule
 use Rattle.circuit.proofs.Keeping.{signal_keeps}
 use Rattle.supervision.specs.Lending.{Lent, lent}
 use Rattle.supervision.specs.Orders.{circuit_of, only}
-use Rattle.supervision.specs.Receiving.{moving, to_one, as_cic}
+use Rattle.supervision.specs.Receiving.{moving, to_one}
 use Rattle.supervision.specs.Replies.{reply_to}
 use Rattle.supervision.specs.Trunks.{placed}
 use Rattle.supervision.proofs.Allowing.{at_place}

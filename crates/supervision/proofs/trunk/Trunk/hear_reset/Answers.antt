@@ -1,4 +1,4 @@
-use Rattle.std.proofs.Common.{◌≡◌, ℕ, ◌+◌, ◌-◌, ◌/◌, eqb, List, [], ◌∷◌, ◌++◌, not, true, Ok, sym, refl, ap, ◌∙◌, subst, append_assoc, arith}
+use Rattle.std.proofs.Common.{◌≡◌, ℕ, ◌-◌, ◌/◌, List, [], ◌∷◌, ◌++◌, refl, ap, ◌∙◌, subst, append_assoc}
 use Rattle.message.specs.Msg.{Msg, single, release_complete}
 use Rattle.message.specs.declared.kinds.BlockType.TheVariants.{Hardware}
 use Rattle.message.specs.declared.kinds.Grouped.TheVariants.{Cgb}
@@ -15,7 +15,7 @@ use Rattle.supervision.specs.Groups.{group_for}
 use Rattle.supervision.specs.Lending.{Lent, Performed, lent}
 use Rattle.supervision.specs.Moves.{table_of}
 use Rattle.supervision.specs.Orders.{circuit_of, only}
-use Rattle.supervision.specs.Receiving.{as_cic, moving, ask_again, heard}
+use Rattle.supervision.specs.Receiving.{moving, ask_again, heard}
 use Rattle.supervision.specs.Replies.{reply_to}
 use Rattle.supervision.specs.Steps.{sending}
 use Rattle.supervision.specs.Trunks.{placed}

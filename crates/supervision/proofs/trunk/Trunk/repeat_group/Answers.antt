@@ -1,11 +1,11 @@
-use Rattle.std.proofs.Common.{◌≡◌, ℕ, ◌+◌, ◌*◌, ◌≤◌, Bool, false, cond, ◌&&◌, eqb, leb, List, [], ◌∷◌, length, Ok, sym, refl, ap, ◌∙◌, subst, add_assoc, arith}
+use Rattle.std.proofs.Common.{◌≡◌, ℕ, ◌+◌, ◌*◌, ◌≤◌, false, cond, ◌&&◌, eqb, leb, List, [], ◌∷◌, length, Ok, sym, refl, ap, ◌∙◌, subst, arith}
 use Rattle.std.proofs.lemmas.Bool.{ne_eqb, lt-leb}
 use Rattle.message.specs.Meaning.{indicator_of}
 use Rattle.message.specs.Msg.{Msg, grouped}
 use Rattle.circuit.specs.declared.record.Circuit.{Circuit}
 use Rattle.refusal.specs.declared.reasons.Refusal.TheVariants.{Address}
 use Rattle.refusal.specs.Refusals.{unless}
-use Rattle.supervision.specs.Due.{holds, is_due}
+use Rattle.supervision.specs.Due.{alert_for, holds, is_due}
 use Rattle.supervision.specs.Expiring.{repeating}
 use Rattle.supervision.specs.Groups.{mask_by, group_for}
 use Rattle.supervision.specs.Lending.{Lent, Performed, lent}
@@ -34,7 +34,7 @@ returns-then-mask-eq0 c = λ H l.
     let zero : mask_by p c.args.system T ≡ 0 =
     sym (mask_same (is_due c.of_system.result) p c.args.system T T (λ k e. c.of_system.ensures k (placed T k) e)) ∙ (sym c.mask-mask.ensures ∙ c.if-mask-eq0.true) in
     outcome_nothing t
-    (λ (b : Lent). unless (leb t.systems c.args.system) Address (Ok (cond (eqb (mask_by p c.args.system b.table) 0) nothing (repeating (group_for t c.args.what c.args.why p c.args.system b.table) c.args.alerts))))
+    (λ (b : Lent). unless (leb t.systems c.args.system) Address (Ok (cond (eqb (mask_by p c.args.system b.table) 0) nothing (repeating (group_for t c.args.what c.args.why p c.args.system b.table) (alert_for c.args.timer (first_of t c.args.system))))))
     (lent T H c.args.words.now c.args.octets.now) l
     (rw (lt-leb t.systems c.args.system (omega (arith, c.if-system-self.false)), zero) refl)
 
@@ -53,11 +53,11 @@ returns c = λ H l.
     let sent = group_for t c.args.what c.args.why p system T in
     let one : sent ≡ group_message t system c.args.what c.args.why mask ∷ [] = rw some refl in
     let status : c.slots_of-slots.result.group.status.now ≡ status_of mask = c.slots_of-slots.ensures.status ∙ (c.to_le_bytes-status.ensures ∙ ap status_of is) in
-    let same : grouped (t.first.0 + (system * 32 + 1)) c.args.what (indicator_of c.args.why) 30 c.slots_of-slots.result.group.status.now ≡ group_message t system c.args.what c.args.why mask =
-    rw (status, add_assoc t.first.0 (system * 32) 1) refl in
-    let done = rw (c.cic_at.ensures, c.slots_of-slots.ensures.first, c.slots_of-slots.ensures.range) at (c.repeat.ensures t T H) in
+    let same : grouped (first_of t system) c.args.what (indicator_of c.args.why) 30 c.slots_of-slots.result.group.status.now ≡ group_message t system c.args.what c.args.why mask = rw status refl in
+    let from : t.first.0 + (system * 32 + 1) ≡ first_of t system = omega arith in
+    let done = rw from at (rw (c.cic_at.ensures, c.slots_of-slots.ensures.first, c.slots_of-slots.ensures.range) at (c.repeat.ensures t T H)) in
     outcome_repeated t
-    (λ (b : Lent). unless (leb t.systems system) Address (Ok (cond (eqb (mask_by p system b.table) 0) nothing (repeating (group_for t c.args.what c.args.why p system b.table) c.args.alerts))))
-    sent c.args.alerts c.repeat.result before after l
+    (λ (b : Lent). unless (leb t.systems system) Address (Ok (cond (eqb (mask_by p system b.table) 0) nothing (repeating (group_for t c.args.what c.args.why p system b.table) (alert_for c.args.timer (first_of t c.args.system))))))
+    sent (alert_for c.args.timer (first_of t c.args.system)) c.repeat.result before after l
     (rw (lt-leb t.systems system (omega (arith, c.if-system-self.false)), some) refl)
-    (subst (λ (ms : List Msg). Performed t (repeating ms c.args.alerts) c.repeat.result before after) (ap (λ (x : Msg). x ∷ []) same ∙ sym one) done)
+    (subst (λ (ms : List Msg). Performed t (repeating ms (alert_for c.args.timer (first_of t c.args.system))) c.repeat.result before after) (ap (λ (x : Msg). x ∷ []) same ∙ sym one) done)

@@ -1,12 +1,11 @@
-use Rattle.std.proofs.Common.{◌≡◌, ℕ, ◌+◌, ◌*◌, Bool, false, ◌&&◌, eqb, leb, List, [], ◌∷◌, length, Ok, sym, refl, ap, ◌∙◌, subst, add_assoc, arith}
+use Rattle.std.proofs.Common.{◌≡◌, ℕ, ◌+◌, ◌*◌, false, ◌&&◌, eqb, [], ◌∷◌, sym, refl, ◌∙◌, arith}
 use Rattle.std.proofs.lemmas.Bool.{ne_eqb, lt-leb}
-use Rattle.message.specs.Msg.{Msg, group_reset}
 use Rattle.circuit.specs.Circuits.{is_group}
 use Rattle.circuit.specs.declared.record.Circuit.{Circuit}
-use Rattle.supervision.specs.Due.{is_due}
-use Rattle.supervision.specs.Expiring.{repeating, repeats_reset}
+use Rattle.supervision.specs.Due.{alert_for, is_due}
+use Rattle.supervision.specs.Expiring.{repeats_reset}
 use Rattle.supervision.specs.Groups.{mask_by}
-use Rattle.supervision.specs.Lending.{Lent, Performed, lent}
+use Rattle.supervision.specs.Lending.{Lent, lent}
 use Rattle.supervision.specs.Orders.{reset_message}
 use Rattle.supervision.specs.Trunks.{first_of, placed}
 use Rattle.supervision.proofs.Repeating.{outcome_nothing, outcome_repeated}
@@ -20,7 +19,7 @@ returns-then-mask-eq0 c = λ H l.
     let p = λ (_ : ℕ) (x : Circuit). x.equipped && is_group x.reset in
     let zero : mask_by p c.args.system T ≡ 0 =
     sym (mask_same (is_due c.of_system.result) p c.args.system T T (λ k e. c.of_system.ensures k (placed T k) e)) ∙ (sym c.mask.ensures ∙ c.if-mask-eq0.true) in
-    outcome_nothing t (λ (b : Lent). repeats_reset t c.args.system c.args.alerts b.table) (lent T H c.args.words.now c.args.octets.now) l
+    outcome_nothing t (λ (b : Lent). repeats_reset t c.args.system (alert_for c.args.timer (first_of t c.args.system)) b.table) (lent T H c.args.words.now c.args.octets.now) l
     (rw (lt-leb t.systems c.args.system (omega (arith, c.if-system-self.false)), zero) refl)
 
 pub returns : goal.returns
@@ -33,8 +32,7 @@ returns c = λ H l.
     let some : eqb (mask_by p system T) 0 ≡ false = ne_eqb (mask_by p system T) 0 (λ e. c.if-mask-eq0.false (is ∙ e)) in
     let before = lent T H c.args.words.now c.args.octets.now in
     let after = lent T H c.repeat.new.words c.repeat.new.octets in
-    let same : group_reset (t.first.0 + (system * 32 + 1)) 30 ≡ reset_message t system = rw (add_assoc t.first.0 (system * 32) 1) refl in
-    let done = rw (c.cic_at.ensures, c.slots_of.ensures.first) at (c.repeat.ensures t T H) in
-    outcome_repeated t (λ (b : Lent). repeats_reset t system c.args.alerts b.table) (reset_message t system ∷ []) c.args.alerts c.repeat.result before after l
+    let from : t.first.0 + (system * 32 + 1) ≡ first_of t system = omega arith in
+    outcome_repeated t (λ (b : Lent). repeats_reset t system (alert_for c.args.timer (first_of t c.args.system)) b.table) (reset_message t system ∷ []) (alert_for c.args.timer (first_of t c.args.system)) c.repeat.result before after l
     (rw (lt-leb t.systems system (omega (arith, c.if-system-self.false)), some) refl)
-    (subst (λ (x : Msg). Performed t (repeating (x ∷ []) c.args.alerts) c.repeat.result before after) same done)
+    (rw from at (rw (c.cic_at.ensures, c.slots_of.ensures.first) at (c.repeat.ensures t T H)))

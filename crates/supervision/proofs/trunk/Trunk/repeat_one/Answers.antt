@@ -1,6 +1,6 @@
-use Rattle.std.proofs.Common.{◌≡◌, ◌-◌, ◌∙◌, ap, sym}
+use Rattle.std.proofs.Common.{◌≡◌, ◌-◌, ◌∙◌, sym}
 use Rattle.message.specs.Msg.{single}
-use Rattle.supervision.specs.Due.{holds}
+use Rattle.supervision.specs.Due.{alert_for, holds}
 use Rattle.supervision.specs.Lending.{lent}
 use Rattle.supervision.specs.Orders.{circuit_of}
 use Rattle.supervision.specs.Trunks.{placed}
@@ -17,7 +17,7 @@ returns-then-not-holds c = λ H l.
     let here = circuit_of t c.args.cic T in
     let v = found here.equipped c.in_ok-place.place (record { 0 = n - t.first.0 }) c.in_ok-place.ensures.value in
     let at : here ≡ placed T (n - t.first.0) = at_place t c.args.cic T v.0 in
-    one_nothing t n (holds c.args.condition) (λ _. single n c.args.kind) c.args.alerts (lent T H c.args.words.now c.args.octets.now) l v.0
+    one_nothing t n (holds c.args.condition) (λ _. single n c.args.kind) (alert_for c.args.timer n) (lent T H c.args.words.now c.args.octets.now) l v.0
     (rw (at, ← v.1) (sym c.holds.ensures ∙ c.if-not-holds.true))
 
 pub returns : goal.returns
@@ -29,5 +29,5 @@ returns c = λ H l.
     let v = found here.equipped c.in_ok-place.place (record { 0 = n - t.first.0 }) c.in_ok-place.ensures.value in
     let at : here ≡ placed T (n - t.first.0) = at_place t c.args.cic T v.0 in
     let before = lent T H c.args.words.now c.args.octets.now in
-    one_repeated t n (holds c.args.condition) (λ _. single n c.args.kind) c.args.alerts c.repeat.result before (lent T H c.repeat.new.words c.repeat.new.octets) l v.0
+    one_repeated t n (holds c.args.condition) (λ _. single n c.args.kind) (alert_for c.args.timer n) c.repeat.result before (lent T H c.repeat.new.words c.repeat.new.octets) l v.0
     (rw (at, ← v.1) (sym c.holds.ensures ∙ c.if-not-holds.false)) (c.repeat.ensures t T H)

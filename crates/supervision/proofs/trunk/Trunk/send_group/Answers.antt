@@ -1,4 +1,4 @@
-use Rattle.std.proofs.Common.{◌≡◌, ℕ, ◌+◌, ◌*◌, ◌≤◌, false, eqb, ◌∷◌, [], List, length, sym, refl, ap, ◌∙◌, subst, add_assoc, arith}
+use Rattle.std.proofs.Common.{◌≡◌, ◌+◌, ◌*◌, ◌≤◌, false, eqb, ◌∷◌, [], List, length, sym, refl, ap, ◌∙◌, subst, add_assoc, arith}
 use Rattle.std.proofs.lemmas.Bool.{ne_eqb}
 use Rattle.message.specs.Meaning.{indicator_of}
 use Rattle.message.specs.Msg.{Msg, grouped}
@@ -6,7 +6,6 @@ use Rattle.supervision.specs.Due.{is_due}
 use Rattle.supervision.specs.Groups.{mask_by, group_for}
 use Rattle.supervision.specs.Orders.{group_message, status_of}
 use Rattle.supervision.specs.Steps.{sending, Extends}
-use Rattle.supervision.specs.Trunks.{first_of}
 use Rattle.supervision.proofs.Systems.{extends_none}
 use Rattle.supervision.proofs.Writable.{own_group}
 use Rattle.supervision.proofs.trunk.Trunk.send_group.Goals as goal

@@ -1,10 +1,9 @@
-use Rattle.std.proofs.Common.{◌≡◌, ℕ, suc, ◌+◌, ◌-◌, ◌*◌, ◌/◌, ◌<◌, ◌≤◌, ◌++◌, false, List, sym, refl, ap, ◌∙◌, subst, arith}
+use Rattle.std.proofs.Common.{◌≡◌, ℕ, suc, ◌+◌, ◌-◌, ◌/◌, List, sym, refl, ap, ◌∙◌, subst, arith}
 use Rattle.std.proofs.lemmas.Bool.{and_left}
 use Rattle.message.specs.Msg.{Msg}
 use Rattle.supervision.specs.Due.{is_due}
 use Rattle.supervision.specs.Groups.{group_for, groups_below}
 use Rattle.supervision.specs.Steps.{touched, sending, Extends}
-use Rattle.supervision.specs.Trunks.{placed}
 use Rattle.supervision.proofs.Systems.{extends_none, extends_both, groups_none, groups_all}
 use Rattle.supervision.proofs.Touching.{touched_below, touched_past}
 use Rattle.supervision.proofs.trunk.Trunk.send_groups.Goals as goal

@@ -1,6 +1,5 @@
-use Rattle.std.proofs.Common.{◌≡◌, ℕ, ◌+◌, ◌-◌, Bool, true, false, not, ◌&&◌, refl, sym, ap, ◌∙◌, rules, arith}
+use Rattle.std.proofs.Common.{refl, sym, ◌∙◌, rules, arith}
 use Rattle.std.proofs.lemmas.Bool.{not-false, not-true}
-use Rattle.supervision.specs.Receiving.{is_range}
 use Rattle.supervision.proofs.Ranges.{in_place, is_spanned}
 use Rattle.supervision.proofs.trunk.Trunk.span.Goals as goal
 
