@@ -1,0 +1,4 @@
+pub mod Agreeing
+pub mod Reading
+pub mod Runs
+pub mod Settling
