@@ -11,6 +11,9 @@ use Rattle.circuit.specs.declared.record.Circuit.{Circuit}
 use Rattle.circuit.specs.declared.rules.Rule.TheVariants as rule
 use Rattle.told.specs.declared.kinds.Direction.TheVariants.{Outgoing}
 use Rattle.told.specs.declared.kinds.Word.TheVariants.{Begun}
+use Rattle.refusal.specs.Refusals.{unless, and_then}
+use Rattle.refusal.specs.declared.reasons.Refusal.{Refusal}
+use Rattle.refusal.specs.declared.reasons.Refusal.TheVariants.{Places, Buffers, Argument, Choice}
 use Rattle.supervision.specs.declared.trunk.Config.{Config}
 use Rattle.supervision.specs.Answering.{answer, seize}
 use Rattle.supervision.specs.Laws.{SetIsOpen, about}
@@ -19,15 +22,12 @@ use Rattle.supervision.specs.Moves.{Move, some_from, words_of}
 use Rattle.supervision.specs.Orders.{ordered}
 use Rattle.supervision.specs.Seizing.{may_ask, seizable, seizing}
 use Rattle.supervision.specs.Trunks.{cic_at, placed}
-use Rattle.refusal.specs.Refusals.{unless, and_then}
-use Rattle.refusal.specs.declared.reasons.Refusal.{Refusal}
-use Rattle.refusal.specs.declared.reasons.Refusal.TheVariants.{Places, Buffers, Argument, Choice}
 use Rattle.supervision.proofs.Allowing.{same_move, and_ok}
 use Rattle.supervision.proofs.Some.{none, some}
 use Rattle.supervision.proofs.Keeping.{about-words}
 use Rattle.supervision.proofs.Naming.{unnamed, acts}
-use Rattle.agreement.specs.Runs.{State, lends}
 use Rattle.agreement.specs.Agreeing.{Asks, Seizes}
+use Rattle.agreement.specs.Runs.{State, lends}
 use Rattle.agreement.proofs.Ordering.{seizable_open}
 use Rattle.agreement.proofs.Standing.{equipped_inside}
 

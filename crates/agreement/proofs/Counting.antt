@@ -22,9 +22,9 @@ use Rattle.supervision.specs.Receiving.{as_cic, moving, nothing, if_so as msg_if
 use Rattle.supervision.specs.Trunks.{covers, placed}
 use Rattle.supervision.proofs.Allowing.{past, same_move}
 use Rattle.supervision.proofs.Bits.{bit_of, some_below}
-use Rattle.agreement.proofs.Circuit.{Signal, iam, progress, rel, rlc, blo, bla, ubl, uba, rsc}
 use Rattle.agreement.proofs.Event.{when, within, is_whole, event}
 use Rattle.agreement.proofs.Passing.{Addressed}
+use Rattle.agreement.proofs.Signals.{Signal, iam, progress, rel, rlc, blo, bla, ubl, uba, rsc}
 use Rattle.agreement.proofs.Standing.{Fitting, Standing, found_at}
 use Rattle.agreement.proofs.Total.{most, most_at}
 use Rattle.agreement.proofs.Weight.{further}

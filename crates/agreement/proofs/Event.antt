@@ -17,7 +17,7 @@ use Rattle.supervision.specs.Orders.{slots, group_message, reset_message, why_of
 use Rattle.supervision.specs.Trunks.{covers, placed}
 use Rattle.supervision.proofs.Masks.{named-slots}
 use Rattle.supervision.proofs.Concerned.{start_of, mask_even, mask_names, mask_none}
-use Rattle.agreement.proofs.Circuit.{Signal, iam, progress, rel, rlc, blo, bla, ubl, uba, rsc, grs, cgb, cgu, cgba, cgua, gra, if_so}
+use Rattle.agreement.proofs.Signals.{Signal, iam, progress, rel, rlc, blo, bla, ubl, uba, rsc, grs, cgb, cgu, cgba, cgua, gra, if_so}
 
 abbrev pub when : {A : Type 0} → Bool → A → Option A
 when true a = Some a

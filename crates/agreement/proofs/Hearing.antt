@@ -1,5 +1,5 @@
 -- What an accepted message is to each circuit.
-use Rattle.std.proofs.Common.{◌≡◌, ℕ, ◌+◌, ◌-◌, ◌/◌, ◌%◌, ◌<◌, ◌≤◌, Bool, true, false, cond, not, ◌&&◌, eqb, ltb, leb, List, [], ◌∷◌, ◌++◌, Some, None, Ok, Option, sym, refl, ap, ◌∙◌, ⊎_elim, subst, arith}
+use Rattle.std.proofs.Common.{◌≡◌, ℕ, ◌+◌, ◌-◌, ◌/◌, ◌%◌, ◌<◌, ◌≤◌, Bool, true, false, cond, not, ◌&&◌, eqb, ltb, leb, List, [], ◌∷◌, ◌++◌, Ok, Option, sym, refl, ap, ◌∙◌, ⊎_elim, subst, arith}
 use Rattle.std.proofs.lemmas.Bool.{cases_Bool, eqb-true, leb-true, le-leb, not-false, and_parts}
 use Rattle.status.specs.Bits.{is_named}
 use Rattle.message.specs.Msg.{Msg, single, release_complete, group_reset, group_reset_ack, grouped, release, call}
@@ -9,7 +9,6 @@ use Rattle.message.specs.declared.kinds.CallKind.TheVariants.{Iam, Acm, Con, Anm
 use Rattle.message.specs.declared.kinds.Grouped.{Grouped}
 use Rattle.message.specs.declared.kinds.Grouped.TheVariants.{Cgb, Cgu, Cgba, Cgua}
 use Rattle.message.specs.declared.kinds.Single.TheVariants.{Rsc, Blo, Ubl, Bla, Uba}
-use Rattle.circuit.specs.Changes.{quiet}
 use Rattle.circuit.specs.Circuits.{block_of, is_none, is_standing}
 use Rattle.circuit.specs.Signals.{on_iam, on_grs, on_gra, unexpected}
 use Rattle.circuit.specs.declared.record.Circuit.{Circuit}
@@ -23,18 +22,10 @@ use Rattle.supervision.specs.Receiving.{as_cic, moving, nothing, if_so as msg_if
 use Rattle.supervision.specs.Trunks.{controls, cic_at, places, placed}
 use Rattle.supervision.proofs.Allowing.{past, same_move}
 use Rattle.supervision.proofs.Bits.{named_by_test}
-use Rattle.agreement.proofs.Circuit.{Signal, iam, progress, rel, rlc, blo, bla, ubl, uba, rsc, grs, cgb, cgu, cgba, cgua, gra, if_so, hear, answers}
 use Rattle.agreement.proofs.Event.{when, within, is_whole, of_kind, event, push, shown, shown_append, push_when, group_for_shown, groups_shown}
+use Rattle.agreement.proofs.Rules.{hear, answers, hears, replies}
+use Rattle.agreement.proofs.Signals.{Signal, iam, progress, rel, rlc, blo, bla, ubl, uba, rsc, grs, cgb, cgu, cgba, cgua, gra, if_so}
 use Rattle.agreement.proofs.Standing.{found_at, after_unnamed, after_named}
-
--- what a message, or none, does to a circuit, and what is answered
-abbrev pub hears : Bool → Option Signal → Circuit → Change
-hears b None c = quiet c
-hears b (Some m) c = hear b m c
-
-abbrev pub replies : Option Signal → Circuit → List Signal
-replies None c = []
-replies (Some m) c = answers m c
 
 pub record HeardAt (t : Config) (T : List Circuit) (m : Move) (k : ℕ) (e : Option Signal) : Type 0 where
   pub now : placed (table_of m T) k ≡ (hears (controls t (cic_at t k)) e (placed T k)).circuit

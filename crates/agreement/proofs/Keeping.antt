@@ -40,11 +40,12 @@ use Rattle.supervision.proofs.Allowing.{past, same_move, singly_allowed, groupwi
 use Rattle.supervision.proofs.Hearing.{heard_allowed, expired_allowed}
 use Rattle.supervision.proofs.Keeping.{Allowed, lawful, about-append}
 use Rattle.supervision.specs.Answering.{Order, seize, release as release_order, block, unblock, reset as reset_order, group_block, group_unblock, group_reset as group_reset_order, answer}
-use Rattle.agreement.proofs.Circuit.{Signal, iam, progress, rel, rlc, blo, bla, ubl, uba, rsc, grs, gra, hear}
 use Rattle.supervision.proofs.Concerned.{every_slot_names}
 use Rattle.agreement.proofs.Event.{when, within, is_whole, of_kind, event, whole_range}
-use Rattle.agreement.proofs.Hearing.{hears, HeardAt}
+use Rattle.agreement.proofs.Hearing.{HeardAt}
 use Rattle.agreement.proofs.Ordering.{seizable_open}
+use Rattle.agreement.proofs.Rules.{hear, hears}
+use Rattle.agreement.proofs.Signals.{Signal, iam, progress, rel, rlc, blo, bla, ubl, uba, rsc, grs, gra}
 use Rattle.agreement.proofs.Standing.{Fitting, Standing, found_at, after_unnamed, after_named, gave_up}
 
 -- ## Each rule may be applied where it is

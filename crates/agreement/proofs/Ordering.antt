@@ -34,9 +34,10 @@ use Rattle.supervision.specs.Trunks.{first_of, placed}
 use Rattle.supervision.proofs.Allowing.{past, same_move, accepted, and_ok}
 use Rattle.supervision.specs.Answering.{Order, seize, release as release_order, block, unblock, reset as reset_order, group_block, group_unblock, group_reset as group_reset_order, answer}
 use Rattle.supervision.proofs.Bits.{some_below}
-use Rattle.agreement.proofs.Circuit.{Signal, iam, rel, blo, ubl, rsc, grs, if_so, Own, stays, seizes, releases, blocks_one, unblocks_one, blocks, unblocks, resets, resets_group, repeats_rel, repeats_blo, repeats_ubl, repeats_rsc, repeats_cgb, repeats_cgu, repeats_grs}
 use Rattle.supervision.proofs.Concerned.{every_slot_names}
 use Rattle.agreement.proofs.Event.{when, of_kind, event, push, shown, push_when, group_event, group_for_shown, reset_event}
+use Rattle.agreement.proofs.Rules.{Own, stays, seizes, releases, blocks_one, unblocks_one, blocks, unblocks, resets, resets_group, repeats_rel, repeats_blo, repeats_ubl, repeats_rsc, repeats_cgb, repeats_cgu, repeats_grs}
+use Rattle.agreement.proofs.Signals.{Signal, iam, rel, blo, ubl, rsc, grs, if_so}
 use Rattle.agreement.proofs.Standing.{Standing, found_at, equipped_inside, after_unnamed, after_named, gave_up}
 
 -- the circuit at a place afterwards, and what was sent about it, are of the end's own doing

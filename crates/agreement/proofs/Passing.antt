@@ -17,10 +17,10 @@ use Rattle.message.specs.declared.kinds.Single.{Single}
 use Rattle.message.specs.declared.kinds.Single.TheVariants.{Rsc, Blo, Ubl, Bla, Uba}
 use Rattle.circuit.specs.Circuits.{is_standing, is_none}
 use Rattle.circuit.specs.declared.record.Circuit.{Circuit}
+use Rattle.circuit.specs.Signals.{unexpected}
 use Rattle.supervision.specs.declared.trunk.Config.{Config}
 use Rattle.supervision.specs.Groups.{mask_by, group_for, groups_below, groups}
 use Rattle.supervision.specs.Moves.{Move, some_from}
-use Rattle.circuit.specs.Signals.{unexpected}
 use Rattle.supervision.specs.Orders.{circuit_of, only, slots, status_of, group_message, reset_message, release_message}
 use Rattle.supervision.specs.Receiving.{as_cic, moving, if_so as msg_if, to_one, marked, to_range, ask_again, is_unexpected, heard}
 use Rattle.supervision.specs.Trunks.{covers, placed}

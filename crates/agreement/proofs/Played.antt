@@ -13,8 +13,8 @@ use Rattle.supervision.specs.Moves.{Move}
 use Rattle.supervision.specs.Orders.{ordered as order_move, only}
 use Rattle.supervision.specs.Receiving.{moving}
 use Rattle.supervision.specs.Answering.{block}
-use Rattle.agreement.specs.Runs.{State, Reaches, opened, near, far, ordered, received, trunk, fresh_state, after_move, with_line}
 use Rattle.agreement.specs.Agreeing.{at}
+use Rattle.agreement.specs.Runs.{State, Reaches, opened, near, far, ordered, received, trunk, fresh_state, after_move, with_line}
 
 abbrev first : Cic
 first = record { 0 = 0 }

@@ -17,12 +17,14 @@ use Rattle.supervision.specs.Trunks.{placed}
 use Rattle.agreement.specs.Agreeing.{AreTaken}
 use Rattle.agreement.specs.Runs.{State, Steps, received, Reaches, near, far, after_move, lends, trunk, with_line}
 use Rattle.agreement.specs.Settling.{Receives, Later, at_once, near_receives, far_receives, messages, connected, bound, Measure, Settles}
-use Rattle.agreement.proofs.Circuit.{Signal, iam}
 use Rattle.agreement.proofs.Counting.{base, at_most_two}
+use Rattle.agreement.proofs.Ends.{swapped}
 use Rattle.agreement.proofs.Event.{event}
 use Rattle.agreement.proofs.Falling.{weight_of, weight_at, heft, calls}
-use Rattle.agreement.proofs.Running.{known, swapped, circuits, agreement}
+use Rattle.agreement.proofs.Opened.{circuits}
+use Rattle.agreement.proofs.Running.{known, agreement}
 use Rattle.agreement.proofs.Settling.{octets_load, line_load, work_of, work_falls}
+use Rattle.agreement.proofs.Signals.{Signal, iam}
 use Rattle.agreement.proofs.Total.{total, most_bound}
 use Rattle.agreement.proofs.Weight.{weight, held}
 
@@ -80,7 +82,7 @@ calls_run (c ∷ T) =
 step : (t : Config) (s s' : State) (into l : List (List ℕ)) → Receives t s into s' l → Steps t s into s' l
 step t s s' into l r =
     subst (λ (z : List (List ℕ)). Steps t s z s' l) (sym r.stood)
-    (subst (λ (z : State). Steps t s (r.front ∷ l) z l) (sym r.gone_on) (received s l r.words r.octets r.front r.move r.taken))
+    (subst (λ (z : State). Steps t s (r.front ∷ l) z l) (sym r.moved) (received s l r.words r.octets r.front r.move r.taken))
 
 abbrev work : Cic → List ℕ → State → State → ℕ
 work first ws a b = work_of (length ws * 32) (circuits ws) first.0 a b
@@ -158,7 +160,7 @@ take_front t s line front rest e h =
     let o : length octets ≡ 320 = length-replicate {A = ℕ} 320 0 in
     let here = subst (AreTaken t s) e h in
     let ok = accepted (receiving t (length s.held) front (lends s words octets)) (here.0 words octets (omega (arith, w)) (omega (arith, o))) in
-    (after_move t ok.0 s, record { front = front; words = words; octets = octets; move = ok.0; stood = e; taken = ok.1; gone_on = refl })
+    (after_move t ok.0 s, record { front = front; words = words; octets = octets; move = ok.0; stood = e; taken = ok.1; moved = refl })
 
 abbrev Emptied : Cic → List ℕ → Bool → State → State → Type 0
 Emptied first ws h a b = (n : ℕ) × (x : State) × (y : State) × Later first ws h a b n x y × (x.line ≡ []) × (y.line ≡ [])

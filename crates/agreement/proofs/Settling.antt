@@ -1,5 +1,5 @@
 -- The lines empty.
-use Rattle.std.proofs.Common.{◌≡◌, ℕ, ◌+◌, ◌*◌, ◌<◌, ◌≤◌, Bool, true, false, List, [], ◌∷◌, ◌++◌, map, length, Ok, Err, Result, sym, refl, ap, ◌∙◌, subst, arith}
+use Rattle.std.proofs.Common.{◌≡◌, ℕ, ◌+◌, ◌*◌, ◌<◌, ◌≤◌, Bool, false, List, [], ◌∷◌, ◌++◌, map, length, Ok, Err, Result, sym, refl, ap, ◌∙◌, subst, arith}
 use Rattle.status.specs.declared.circuit.Cic.{Cic}
 use Rattle.message.specs.Decode.{decode}
 use Rattle.message.specs.Encode.{encode, plain}
@@ -14,18 +14,17 @@ use Rattle.supervision.specs.Moves.{table_of}
 use Rattle.supervision.specs.Orders.{admitted}
 use Rattle.supervision.specs.Receiving.{heard}
 use Rattle.supervision.specs.Trunks.{placed}
+use Rattle.supervision.proofs.Allowing.{and_ok}
 use Rattle.agreement.specs.Runs.{State, after_move, lends, trunk, with_line}
 use Rattle.agreement.specs.Settling.{Receives}
 use Rattle.agreement.proofs.Counting.{base}
-use Rattle.agreement.proofs.Event.{event}
+use Rattle.agreement.proofs.Ends.{Inv}
 use Rattle.agreement.proofs.Falling.{weight_at, load, loads, calls, Same, load_up, same_after, falls}
-use Rattle.agreement.proofs.Hearing.{HeardAt, heard_at}
 use Rattle.agreement.proofs.Keeping.{standing_heard}
-use Rattle.agreement.proofs.Octets.{AllOnLine, passes_whole, plain_event}
+use Rattle.agreement.proofs.Octets.{AllOnLine, plain_event}
 use Rattle.agreement.proofs.Passing.{Passes, Each, own_passes}
-use Rattle.agreement.proofs.Running.{Inv}
+use Rattle.agreement.proofs.Running.{message_at}
 use Rattle.agreement.proofs.Sending.{heard_sent}
-use Rattle.supervision.proofs.Allowing.{and_ok}
 use Rattle.agreement.proofs.Standing.{Fitting}
 use Rattle.agreement.proofs.Total.{most_le}
 
@@ -95,9 +94,7 @@ work_falls first ws x y E a b a' l f i r =
     let ok = and_ok (admitted t (length a.held) given) _ m r.taken in
     let heard_it : heard t msg T ≡ Ok m = subst (λ d. and_then (raised d) (λ z. heard t z T) ≡ Ok m) on.0.read ok.2 in
     let sent = own_passes t E m.sent (heard_sent t E msg T m f st p heard_it) in
-    let at : (k : ℕ) → E k ≡ true → HeardAt t T m k (event first.0 k msg) =
-    λ k e. heard_at t msg T m k heard_it (passes_whole first.0 n E msg p.addressed) (st.equipment k ∙ e) (f.slots k e)
-    (let j = f.inside k e in omega (arith, j)) in
+    let at = message_at t E T msg m f st p heard_it in
     let then = standing_heard t E msg T m f st heard_it at in
     let off : (k : ℕ) → E k ≡ false → placed (table_of m T) k ≡ placed T k = λ k e. then.empty k e ∙ sym (st.empty k e) in
     let lower = falls t E msg T U m f st p.addressed heard_it (at, off) in
@@ -110,4 +107,4 @@ work_falls first ws x y E a b a' l f i r =
     let front = ap (line_load n E first.0 U T) r.stood in
     let read = ap (octets_load n E first.0 U T) on.0.read in
     let goal : work_of n E first.0 (after_move t m a) (with_line l b) < work_of n E first.0 a b = omega (arith, lower, out, back, new, sum, front, read) in
-    subst (λ (s : State). work_of n E first.0 s (with_line l b) < work_of n E first.0 a b) (sym r.gone_on) goal
+    subst (λ (s : State). work_of n E first.0 s (with_line l b) < work_of n E first.0 a b) (sym r.moved) goal

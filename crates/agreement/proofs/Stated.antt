@@ -12,9 +12,9 @@ use Rattle.told.specs.declared.kinds.Word.{Word}
 use Rattle.told.specs.declared.kinds.Word.TheVariants.{Send, Begun, Ended, Alert}
 use Rattle.supervision.specs.declared.trunk.Config.{Config}
 use Rattle.supervision.specs.Trunks.{placed}
+use Rattle.agreement.specs.Agreeing.{TakesTurns, AreTaken, Asks, Seizes, Promised}
 use Rattle.agreement.specs.Reading.{read}
 use Rattle.agreement.specs.Runs.{State, Reaches, trunk}
-use Rattle.agreement.specs.Agreeing.{TakesTurns, AreTaken, Asks, Seizes, Promised}
 use Rattle.agreement.proofs.Running.{agreement, legible}
 use Rattle.agreement.proofs.Telling.{Legible, read_back}
 

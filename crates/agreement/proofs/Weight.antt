@@ -6,7 +6,8 @@ use Rattle.circuit.specs.Circuits.{block_of, is_connected, is_none, is_standing}
 use Rattle.circuit.specs.declared.record.Circuit.{Circuit}
 use Rattle.supervision.specs.Receiving.{is_unexpected}
 use Rattle.supervision.proofs.Bits.{bit_of}
-use Rattle.agreement.proofs.Circuit.{Signal, iam, progress, rel, rlc, blo, bla, ubl, uba, rsc, grs, cgb, cgu, cgba, cgua, gra, hear, answers}
+use Rattle.agreement.proofs.Rules.{hear, answers}
+use Rattle.agreement.proofs.Signals.{Signal, iam, progress, rel, rlc, blo, bla, ubl, uba, rsc, grs, cgb, cgu, cgba, cgua, gra}
 
 -- a local block of this type stands
 abbrev pub stands : BlockType → Circuit → Bool

@@ -77,10 +77,12 @@ fresh_state room ws = record { table = open_table ws; held = open_set room (open
 abbrev pub with_line : List (List ℕ) → State → State
 with_line l s = record s { line = l }
 
--- what runs reach, of two exchanges with the same first CIC and equipment, the near one with the higher point code or the far one
-pub data Reaches (first : Cic) (ws : List ℕ) (h : Bool) : State → State → Type 0 where
-  opened : (room room' : ℕ) → opening room first ws h (length ws * 32) ≡ Ok (trunk first ws h)
-      → opening room' first ws (not h) (length ws * 32) ≡ Ok (trunk first ws (not h))
-      → Reaches first ws h (fresh_state room ws) (fresh_state room' ws)
-  near : (a b a' : State) (l : List (List ℕ)) → Reaches first ws h a b → Steps (trunk first ws h) a b.line a' l → Reaches first ws h a' (with_line l b)
-  far : (a b b' : State) (l : List (List ℕ)) → Reaches first ws h a b → Steps (trunk first ws (not h)) b a.line b' l → Reaches first ws h (with_line l a) b'
+-- what runs reach, of two exchanges with the same first CIC and equipment; `higher` says whether the near one has the higher point code
+pub data Reaches (first : Cic) (ws : List ℕ) (higher : Bool) : State → State → Type 0 where
+  -- both newly opened, the lines empty
+  opened : (room room' : ℕ) → opening room first ws higher (length ws * 32) ≡ Ok (trunk first ws higher)
+      → opening room' first ws (not higher) (length ws * 32) ≡ Ok (trunk first ws (not higher))
+      → Reaches first ws higher (fresh_state room ws) (fresh_state room' ws)
+  -- a step of the near one, and of the far one
+  near : (a b a' : State) (l : List (List ℕ)) → Reaches first ws higher a b → Steps (trunk first ws higher) a b.line a' l → Reaches first ws higher a' (with_line l b)
+  far : (a b b' : State) (l : List (List ℕ)) → Reaches first ws higher a b → Steps (trunk first ws (not higher)) b a.line b' l → Reaches first ws higher (with_line l a) b'
