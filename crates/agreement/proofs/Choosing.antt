@@ -28,7 +28,7 @@ use Rattle.supervision.proofs.Keeping.{about-words}
 use Rattle.supervision.proofs.Naming.{unnamed, acts}
 use Rattle.agreement.specs.Agreeing.{Asks, Seizes}
 use Rattle.agreement.specs.Runs.{State, lends}
-use Rattle.agreement.proofs.Ordering.{seizable_open}
+use Rattle.agreement.proofs.Acting.{seizable_open}
 use Rattle.agreement.proofs.Standing.{equipped_inside}
 
 -- the policy is asked

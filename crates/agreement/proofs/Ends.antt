@@ -12,13 +12,13 @@ use Rattle.supervision.specs.Laws.{about, SetIsOpen}
 use Rattle.supervision.specs.Lending.{settled}
 use Rattle.supervision.specs.Moves.{Move, step_of, table_of, words_of}
 use Rattle.supervision.specs.Trunks.{placed}
-use Rattle.supervision.proofs.Keeping.{Allowed}
 use Rattle.supervision.proofs.Settling.{length-settled}
 use Rattle.supervision.proofs.Stepping.{length_each}
 use Rattle.agreement.specs.Runs.{State, after_move, trunk, with_line}
+use Rattle.agreement.proofs.EndLaws.{Kept, Acted, Heard}
 use Rattle.agreement.proofs.Event.{event, push, shown}
-use Rattle.agreement.proofs.Keeping.{Shift, standing_after, turns_after, set_after}
-use Rattle.agreement.proofs.Laws.{OwnLaws, HeardBy}
+use Rattle.agreement.proofs.Keeping.{standing_after, turns_after, set_after}
+use Rattle.agreement.proofs.Laws.{OwnLaws}
 use Rattle.agreement.proofs.Linking.{Link, turned, link_own, link_heard}
 use Rattle.agreement.proofs.Octets.{AllOnLine, sent_on_line, seen, line_of, line_append, line_sent}
 use Rattle.agreement.proofs.Passing.{Passes, Sends, Each, own_passes}
@@ -60,28 +60,10 @@ across first ws x y E (m ∷ ms) h = (record { addressed = h.0.passes.addressed;
 inside : (t : Config) (E : ℕ → Bool) (T : List Circuit) → Fitting t E → Standing t E T → t.first.0 + length T ≤ 4096
 inside t E T f st = rw st.size f.last
 
--- ## The laws of an end: what it has to keep in each of its moves
-
--- at its own table, and of what it sends
-pub record Kept (t : Config) (E : ℕ → Bool) (s : State) (m : Move) : Type 0 where
-  pub allowed : Allowed m s.table
-  pub shift : Shift E s.table m
-  pub sent : Each (Sends t E) m.sent
-
--- in what it does by itself
-pub record Acted (t : Config) (E : ℕ → Bool) (s : State) (m : Move) : Type 0 where
-  pub kept : Kept t E s m
-  pub own : (k : ℕ) → E k ≡ true → OwnLaws (placed s.table k) (placed (table_of m s.table) k) (shown t.first.0 k m.sent)
-
--- with a message of the other end
-pub record Heard (t : Config) (E : ℕ → Bool) (s : State) (msg : Msg) (m : Move) : Type 0 where
-  pub kept : Kept t E s m
-  pub heard : (k : ℕ) → E k ≡ true → HeardBy (event t.first.0 k msg) (placed s.table k) (placed (table_of m s.table) k) (shown t.first.0 k m.sent)
-
 -- ## They keep what holds
 
 -- the end after a move
-end_after : (t : Config) (E : ℕ → Bool) (s : State) (m : Move) → Fitting t E → End t E s → Kept t E s m → End t E (after_move t m s)
+end_after : (t : Config) (E : ℕ → Bool) (s : State) (m : Move) → Fitting t E → End t E s → Kept t E s.table m → End t E (after_move t m s)
 end_after t E s m f i k =
     let T = s.table in
     let fits = i.room in
@@ -100,7 +82,7 @@ end_with : (t : Config) (E : ℕ → Bool) (s : State) (l : List (List ℕ)) →
 end_with t E s l i = record { standing = i.standing; room = i.room; set = i.set; legible = i.legible; turns = i.turns }
 
 pub inv_acted : (first : Cic) (ws : List ℕ) (x y : Bool) (E : ℕ → Bool) → Fitting (trunk first ws x) E → (s : State) (into : List (List ℕ)) (m : Move) (b : State)
-    → Acted (trunk first ws x) E s m
+    → Acted (trunk first ws x) E s.table m
     → Inv first ws x y E s (with_line into b) → Inv first ws x y E (after_move (trunk first ws x) m s) (with_line into b)
 inv_acted first ws x y E f s into m b w i =
     let t = trunk first ws x in
@@ -116,7 +98,7 @@ inv_acted first ws x y E f s into m b w i =
     }
 
 pub inv_heard : (first : Cic) (ws : List ℕ) (x y : Bool) (E : ℕ → Bool) → Fitting (trunk first ws x) E → (s : State) (front : List ℕ) (into : List (List ℕ)) (m : Move) (b : State) (msg : Msg)
-    → decode front ≡ Ok msg → Heard (trunk first ws x) E s msg m
+    → decode front ≡ Ok msg → Heard (trunk first ws x) E s.table msg m
     → Inv first ws x y E s (with_line (front ∷ into) b) → Inv first ws x y E (after_move (trunk first ws x) m s) (with_line into b)
 inv_heard first ws x y E f s front into m b msg read w i =
     let t = trunk first ws x in

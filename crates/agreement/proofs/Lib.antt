@@ -1,6 +1,8 @@
+pub mod Acting
 pub mod Channel
 pub mod Choosing
 pub mod Counting
+pub mod EndLaws
 pub mod Ends
 pub mod Event
 pub mod Falling
@@ -10,7 +12,6 @@ pub mod Laws
 pub mod Linking
 pub mod Octets
 pub mod Opened
-pub mod Ordering
 pub mod Owing
 pub mod Passing
 pub mod Played
@@ -19,6 +20,7 @@ pub mod Running
 pub mod Sending
 pub mod Settled
 pub mod Settling
+pub mod Shifting
 pub mod Signals
 pub mod Standing
 pub mod Stated

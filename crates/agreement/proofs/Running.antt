@@ -7,70 +7,42 @@ use Rattle.message.specs.declared.kinds.BlockType.{BlockType}
 use Rattle.message.specs.declared.kinds.BlockType.TheVariants.{Maintenance, Hardware}
 use Rattle.message.specs.declared.kinds.CallKind.{CallKind}
 use Rattle.message.specs.declared.kinds.CallKind.TheVariants.{Iam, Acm, Con, Anm, Cpg}
-use Rattle.circuit.specs.Circuits.{is_sound, block_of, vacant, is_asked, is_group, is_lifting, is_none, is_set, is_single, is_standing, is_waiting}
+use Rattle.circuit.specs.Circuits.{block_of, vacant, is_asked, is_group, is_lifting, is_none, is_set, is_single, is_standing, is_waiting}
 use Rattle.circuit.specs.declared.record.Circuit.{Circuit}
 use Rattle.circuit.specs.declared.record.LocalBlock.{LocalBlock}
 use Rattle.circuit.specs.declared.record.Reset.{Reset}
 use Rattle.refusal.specs.Refusals.{and_then, raised}
 use Rattle.supervision.specs.declared.trunk.Config.{Config}
-use Rattle.supervision.specs.Moves.{Move, table_of}
+use Rattle.supervision.specs.Moves.{Move}
 use Rattle.supervision.specs.Orders.{admitted}
 use Rattle.supervision.specs.Receiving.{as_cic, heard}
 use Rattle.supervision.specs.Trunks.{controls, cic_at, placed}
 use Rattle.supervision.proofs.Allowing.{and_ok}
 use Rattle.supervision.proofs.Hearing.{heard_allowed}
-use Rattle.supervision.specs.Answering.{Order, answer}
-use Rattle.supervision.specs.Expiring.{expiring}
 use Rattle.agreement.specs.Agreeing.{Knows, AreTaken, Rests, Agreement}
 use Rattle.agreement.specs.Runs.{State, lends, Steps, ordered, expired, received, called, of_host, trunk, with_line, Reaches, opened, near, far}
+use Rattle.agreement.proofs.Acting.{order_acted, expiry_acted}
 use Rattle.agreement.proofs.Choosing.{seizes_fairly}
-use Rattle.agreement.proofs.Ends.{Inv, swapped, Acted, Heard, inv_acted, inv_heard, inv_called}
+use Rattle.agreement.proofs.EndLaws.{Heard}
+use Rattle.agreement.proofs.Ends.{Inv, swapped, inv_acted, inv_heard, inv_called}
 use Rattle.agreement.proofs.Event.{when, event, push, shown}
 use Rattle.agreement.proofs.Hearing.{HeardAt, heard_at}
-use Rattle.agreement.proofs.Keeping.{order_allowed, expiry_allowed, order_shift, expiry_shift, heard_shift}
-use Rattle.agreement.proofs.Laws.{OwnLaws, HeardBy}
+use Rattle.agreement.proofs.Laws.{HeardBy}
 use Rattle.agreement.proofs.Laws.{Wait, for_block, for_lift, for_release, for_single, for_group, waiting}
 use Rattle.agreement.proofs.Linking.{Link, link_agrees}
 use Rattle.agreement.proofs.Octets.{AllOnLine, line_of, passes_whole}
 use Rattle.agreement.proofs.Opened.{circuits, fitting, fresh_inv, takes_all}
-use Rattle.agreement.proofs.Ordering.{OwnAt, order_own, expiry_own}
 use Rattle.agreement.proofs.Owing.{none_owed}
 use Rattle.agreement.proofs.Passing.{Passes, call_passes, found_addressed, is_accepted}
 use Rattle.agreement.proofs.Rules.{own_laws, heard_laws}
 use Rattle.agreement.proofs.Rules.{Own, stays, progresses, hears}
-use Rattle.agreement.proofs.Sending.{order_sent, expiry_sent, heard_sent}
+use Rattle.agreement.proofs.Sending.{heard_sent}
+use Rattle.agreement.proofs.Shifting.{heard_shift}
 use Rattle.agreement.proofs.Signals.{progress}
 use Rattle.agreement.proofs.Standing.{Fitting, Standing}
 use Rattle.agreement.proofs.Telling.{Legible}
 
 -- ## Our rules keep the laws
-
-own_at : (t : Config) (T : List Circuit) (m : Move) (k : ℕ) → is_sound (placed T k) ≡ true → OwnAt t T m k → OwnLaws (placed T k) (placed (table_of m T) k) (shown t.first.0 k m.sent)
-own_at t T m k s o = own_laws (placed T k) (placed (table_of m T) k) (shown t.first.0 k m.sent) o s
-
-order_acted : (t : Config) (E : ℕ → Bool) (s : State) (words octets : List ℕ) (o : Order) (m : Move) → Fitting t E → Standing t E s.table
-    → answer t (length s.held) o (lends s words octets) ≡ Ok m → Acted t E s m
-order_acted t E s words octets o m f st h =
-    let given = lends s words octets in
-    let room = length s.held in
-    record {
-      kept = record { allowed = order_allowed t room o given m h; shift = order_shift t E room o given m f st h; sent = order_sent t E room o given m f st h };
-      own = λ k e. own_at t s.table m k (st.sound k) (order_own t E room o given m k st h (f.slots k e) e);
-    }
-
-expiry_acted : (t : Config) (E : ℕ → Bool) (s : State) (words octets : List ℕ) (timer at kind : ℕ) (m : Move) → Fitting t E → Standing t E s.table
-    → expiring t (length s.held) timer at kind (lends s words octets) ≡ Ok m → Acted t E s m
-expiry_acted t E s words octets timer at kind m f st h =
-    let given = lends s words octets in
-    let room = length s.held in
-    record {
-      kept = record {
-        allowed = expiry_allowed t room timer at kind given m h;
-        shift = expiry_shift t E room timer at kind given m st h;
-        sent = expiry_sent t E room timer at kind given m f st h;
-      };
-      own = λ k e. own_at t s.table m k (st.sound k) (expiry_own t E room timer at kind given m k st h (f.slots k e) e);
-    }
 
 -- what a message that passes is at each circuit
 pub message_at : (t : Config) (E : ℕ → Bool) (T : List Circuit) (msg : Msg) (m : Move) → Fitting t E → Standing t E T → Passes t E msg → heard t msg T ≡ Ok m
@@ -79,9 +51,8 @@ message_at t E T msg m f st p h k e =
     heard_at t msg T m k h (passes_whole t.first.0 (t.systems * 32) E msg p.addressed) (st.equipment k ∙ e) (f.slots k e)
     (let j = f.inside k e in let n = t.systems in omega (arith, j))
 
-message_heard : (t : Config) (E : ℕ → Bool) (s : State) (msg : Msg) (m : Move) → Fitting t E → Standing t E s.table → Passes t E msg → heard t msg s.table ≡ Ok m → Heard t E s msg m
-message_heard t E s msg m f st p h =
-    let T = s.table in
+message_heard : (t : Config) (E : ℕ → Bool) (T : List Circuit) (msg : Msg) (m : Move) → Fitting t E → Standing t E T → Passes t E msg → heard t msg T ≡ Ok m → Heard t E T msg m
+message_heard t E T msg m f st p h =
     let at = message_at t E T msg m f st p h in
     record {
       kept = record { allowed = heard_allowed t msg T m h; shift = heard_shift t E msg T m f at; sent = heard_sent t E msg T m f st p h };
@@ -110,15 +81,15 @@ host_own first k c kind body x h = go kind h
 moved : (first : Cic) (ws : List ℕ) (x y : Bool) (E : ℕ → Bool) → Fitting (trunk first ws x) E → {a a' : State} {into l : List (List ℕ)} (b : State)
     → Steps (trunk first ws x) a into a' l → Inv first ws x y E a (with_line into b) → Inv first ws x y E a' (with_line l b)
 moved first ws x y E f b (ordered s into words octets o m by h) i =
-    inv_acted first ws x y E f s into m b (order_acted (trunk first ws x) E s words octets o m f i.end_a.standing h) i
+    inv_acted first ws x y E f s into m b (order_acted (trunk first ws x) E (length s.held) o (lends s words octets) m f i.end_a.standing h) i
 moved first ws x y E f b (expired s into words octets timer at kind m h) i =
-    inv_acted first ws x y E f s into m b (expiry_acted (trunk first ws x) E s words octets timer at kind m f i.end_a.standing h) i
+    inv_acted first ws x y E f s into m b (expiry_acted (trunk first ws x) E (length s.held) timer at kind (lends s words octets) m f i.end_a.standing h) i
 moved first ws x y E f b (received s into words octets front m h) i =
     let t = trunk first ws x in
     let on = i.into.0 in
     let a = and_ok (admitted t (length s.held) (lends s words octets)) _ m h in
     let heard_it : heard t on.message s.table ≡ Ok m = subst (λ d. and_then (raised d) (λ z. heard t z s.table) ≡ Ok m) on.read a.2 in
-    inv_heard first ws x y E f s front into m b on.message on.read (message_heard t E s on.message m f i.end_a.standing on.passes heard_it) i
+    inv_heard first ws x y E f s front into m b on.message on.read (message_heard t E s.table on.message m f i.end_a.standing on.passes heard_it) i
 moved first ws x y E f b (called s into c kind body h l q) i =
     let t = trunk first ws x in
     let st = i.end_a.standing in

@@ -15,16 +15,18 @@ use Rattle.supervision.specs.Orders.{admitted}
 use Rattle.supervision.specs.Receiving.{heard}
 use Rattle.supervision.specs.Trunks.{placed}
 use Rattle.supervision.proofs.Allowing.{and_ok}
+use Rattle.supervision.proofs.Hearing.{heard_allowed}
 use Rattle.agreement.specs.Runs.{State, after_move, lends, trunk, with_line}
 use Rattle.agreement.specs.Settling.{Receives}
 use Rattle.agreement.proofs.Counting.{base}
 use Rattle.agreement.proofs.Ends.{Inv}
 use Rattle.agreement.proofs.Falling.{weight_at, load, loads, calls, Same, load_up, same_after, falls}
-use Rattle.agreement.proofs.Keeping.{standing_heard}
+use Rattle.agreement.proofs.Keeping.{standing_after}
 use Rattle.agreement.proofs.Octets.{AllOnLine, plain_event}
 use Rattle.agreement.proofs.Passing.{Passes, Each, own_passes}
 use Rattle.agreement.proofs.Running.{message_at}
 use Rattle.agreement.proofs.Sending.{heard_sent}
+use Rattle.agreement.proofs.Shifting.{heard_shift}
 use Rattle.agreement.proofs.Standing.{Fitting}
 use Rattle.agreement.proofs.Total.{most_le}
 
@@ -95,7 +97,7 @@ work_falls first ws x y E a b a' l f i r =
     let heard_it : heard t msg T ≡ Ok m = subst (λ d. and_then (raised d) (λ z. heard t z T) ≡ Ok m) on.0.read ok.2 in
     let sent = own_passes t E m.sent (heard_sent t E msg T m f st p heard_it) in
     let at = message_at t E T msg m f st p heard_it in
-    let then = standing_heard t E msg T m f st heard_it at in
+    let then = standing_after t E T m st (heard_allowed t msg T m heard_it) (heard_shift t E msg T m f at) in
     let off : (k : ℕ) → E k ≡ false → placed (table_of m T) k ≡ placed T k = λ k e. then.empty k e ∙ sym (st.empty k e) in
     let lower = falls t E msg T U m f st p.addressed heard_it (at, off) in
     let same = same_after t E msg T m at in
