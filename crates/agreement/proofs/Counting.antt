@@ -1,6 +1,6 @@
 -- What is sent in reply to a message, counted: an answer, and as many requests as the circuits have cause for, or fewer.
-use Rattle.std.proofs.Common.{◌≡◌, ℕ, zero, suc, ◌+◌, ◌-◌, ◌*◌, ◌/◌, ◌%◌, ◌<◌, ◌≤◌, Bool, true, false, cond, not, ◌&&◌, eqb, ltb, leb, List, [], ◌∷◌, ◌++◌, Some, None, Ok, Option, sym, refl, ap, ◌∙◌, ⊎_elim, arith}
-use Rattle.std.proofs.lemmas.Bool.{cases_Bool, cases_lt, cases_eq, lt-ltb, le-ltb, le-leb, leb-true, eqb-true, eq-eqb, not-false, and_parts}
+use Rattle.std.proofs.Common.{◌≡◌, ℕ, zero, suc, ◌+◌, ◌-◌, ◌*◌, ◌/◌, ◌%◌, ◌<◌, ◌≤◌, Bool, true, false, cond, ◌&&◌, eqb, ltb, leb, List, [], ◌∷◌, ◌++◌, Some, None, Ok, Option, sym, refl, ap, ◌∙◌, ⊎_elim, arith}
+use Rattle.std.proofs.lemmas.Bool.{cases_Bool, cases_lt, cases_eq, lt-ltb, le-ltb, le-leb, leb-true, eqb-true, eq-eqb, and_parts}
 use Rattle.status.specs.Bits.{is_named}
 use Rattle.message.specs.Msg.{Msg, single, release_complete, group_reset, group_reset_ack, grouped, release, call}
 use Rattle.message.specs.declared.kinds.BlockType.{BlockType}
@@ -13,19 +13,17 @@ use Rattle.circuit.specs.Circuits.{block_of, is_none, is_standing}
 use Rattle.circuit.specs.Signals.{on_grs, on_gra, unexpected}
 use Rattle.circuit.specs.declared.record.Circuit.{Circuit}
 use Rattle.circuit.specs.declared.rules.Change.{Change}
-use Rattle.refusal.specs.declared.reasons.Refusal.TheVariants.{Address}
 use Rattle.supervision.specs.declared.trunk.Config.{Config}
 use Rattle.supervision.specs.Groups.{mask_by, group_for, groups_below, groups, status_by}
-use Rattle.supervision.specs.Moves.{Move, some_from}
+use Rattle.supervision.specs.Moves.{Move}
 use Rattle.supervision.specs.Orders.{circuit_of, only, why_of, group_message, release_message}
-use Rattle.supervision.specs.Receiving.{as_cic, moving, nothing, if_so as msg_if, to_one, is_range, in_range, marked, to_range, ask_again, shows, is_unexpected, is_counted, heard}
+use Rattle.supervision.specs.Receiving.{as_cic, moving, nothing, if_so as msg_if, to_one, in_range, marked, ask_again, shows, is_unexpected, is_counted, heard}
 use Rattle.supervision.specs.Trunks.{covers, placed}
-use Rattle.supervision.proofs.Allowing.{past, same_move}
 use Rattle.supervision.proofs.Bits.{bit_of, some_below}
 use Rattle.agreement.proofs.Event.{when, within, is_whole, event}
 use Rattle.agreement.proofs.Passing.{Addressed}
 use Rattle.agreement.proofs.Signals.{Signal, iam, progress, rel, rlc, blo, bla, ubl, uba, rsc}
-use Rattle.agreement.proofs.Standing.{Fitting, Standing, found_at}
+use Rattle.agreement.proofs.Standing.{Fitting, Standing, one_reply, range_reply}
 use Rattle.agreement.proofs.Total.{most, most_at}
 use Rattle.agreement.proofs.Weight.{further}
 
@@ -146,17 +144,6 @@ covers_within first c r s k h =
 
 -- ## A message for one circuit
 
-pub record OneSent (t : Config) (c : ℕ) (ans : Circuit → List Msg) (T : List Circuit) (m : Move) : Type 0 where
-  pub sent : m.sent ≡ ans (placed T (c - t.first.0))
-
-pub one_sent : (t : Config) (c : ℕ) (rule : Circuit → Change) (ans : Circuit → List Msg) (T : List Circuit) (m : Move) → to_one t c rule ans T ≡ Ok m → OneSent t c ans T m
-one_sent t c rule ans T m h =
-    let x = circuit_of t (as_cic c) T in
-    let found = past (not x.equipped) Address _ m h in
-    let at = found_at t (as_cic c) T (not-false x.equipped found.0) in
-    let same = same_move (moving (only t (as_cic c)) (λ _. rule) (ans x)) m found.1 in
-    record { sent = ap (λ (y : Move). y.sent) (sym same) ∙ ap ans at.1 }
-
 -- its further messages are the most
 one_further : (first : ℕ) (E : ℕ → Bool) (n c : ℕ) (msg : Msg) (sig : Signal) (T : List Circuit) → E (c - first) ≡ true → c - first < n
     → ((k : ℕ) → event first k msg ≡ when (eqb k (c - first)) sig) → further sig (placed T (c - first)) ≤ most n (further_at E first msg T)
@@ -174,13 +161,7 @@ one_counted : (t : Config) (E : ℕ → Bool) (n c : ℕ) (msg : Msg) (sig : Sig
     → bases m.sent + 1 ≤ base msg + 2 * most n (further_at E t.first.0 msg T)
 one_counted t E n c msg sig rule ans T m h e l q w =
     let a = one_further t.first.0 E n c msg sig T e l q in
-    rw (one_sent t c rule ans T m h).sent (omega (arith, a, w))
-
-pub range_sent : (t : Config) (c r : ℕ) (s : List ℕ) (x : Move) (T : List Circuit) (m : Move) → to_range t c r s x T ≡ Ok m → m.sent ≡ x.sent
-range_sent t c r s x T m h =
-    let inside = past (not (is_range t c r)) Address _ m h in
-    let found = past (some_from (λ j y. marked t c r s j && not y.equipped) 0 T) Address _ m inside.1 in
-    ap (λ (y : Move). y.sent) (sym (same_move x m found.1))
+    rw (one_reply t c rule ans T m h) (omega (arith, a, w))
 
 -- the hardware block asked again, of one circuit
 ask_few : (t : Config) (c : ℕ) (T : List Circuit) → bases (ask_again t c T) ≤ 2 * bit_of (is_standing (placed T (c - t.first.0)).local.hardware)
@@ -231,8 +212,8 @@ counted t E (call c Acm x) T m f st a h = one_counted t E _ c (call c Acm x) pro
 counted t E (call c Con x) T m f st a h = one_counted t E _ c (call c Con x) progress _ (λ _. []) T m h a.1 (f.inside _ a.1) (λ k. refl) (omega arith)
 counted t E (call c Anm x) T m f st a h = one_counted t E _ c (call c Anm x) progress _ (λ _. []) T m h a.1 (f.inside _ a.1) (λ k. refl) (omega arith)
 counted t E (call c Cpg x) T m f st a h = one_counted t E _ c (call c Cpg x) progress _ (λ _. []) T m h a.1 (f.inside _ a.1) (λ k. refl) (omega arith)
-counted t E (grouped c Cgb i r s) T m f st a h = rw (range_sent t c r s _ T m h) (omega arith)
-counted t E (grouped c Cgu i r s) T m f st a h = rw (range_sent t c r s _ T m h) (omega arith)
+counted t E (grouped c Cgb i r s) T m f st a h = rw (range_reply t c r s _ T m h) (omega arith)
+counted t E (grouped c Cgu i r s) T m f st a h = rw (range_reply t c r s _ T m h) (omega arith)
 counted t E (grouped c Cgba i r s) T m f st a h =
     let p = λ (k : ℕ) (x : Circuit). marked t c r s k && is_none (block_of (why_of i) x.local) in
     let e = further_at E t.first.0 (grouped c Cgba i r s) T in
@@ -242,7 +223,7 @@ counted t E (grouped c Cgba i r s) T m f st a h =
     let one : e k ≡ 1 = rw (a.2 k w.0, w.0, w.1) refl in
     let b = most_at k (t.systems * 32) e l in
     (in_system t.first.0 c r k a.3 (covers_within t.first.0 c r s k w.0), omega (arith, one, b))) in
-    rw (range_sent t c r s _ T m h) (omega (arith, few))
+    rw (range_reply t c r s _ T m h) (omega (arith, few))
 counted t E (grouped c Cgua i r s) T m f st a h =
     let p = λ (k : ℕ) (x : Circuit). marked t c r s k && is_standing (block_of (why_of i) x.local) in
     let e = further_at E t.first.0 (grouped c Cgua i r s) T in
@@ -252,7 +233,7 @@ counted t E (grouped c Cgua i r s) T m f st a h =
     let one : e k ≡ 1 = rw (a.2 k w.0, w.0, w.1) refl in
     let b = most_at k (t.systems * 32) e l in
     (in_system t.first.0 c r k a.3 (covers_within t.first.0 c r s k w.0), omega (arith, one, b))) in
-    rw (range_sent t c r s _ T m h) (omega (arith, few))
+    rw (range_reply t c r s _ T m h) (omega (arith, few))
 counted t E (group_reset c r) T m f st a h =
     let p = λ (k : ℕ) (x : Circuit). x.equipped && (in_range t c r k && is_standing x.local.hardware) in
     let again = groups t Cgb Hardware p T in
@@ -267,8 +248,8 @@ counted t E (group_reset c r) T m f st a h =
     let b = most_at k (t.systems * 32) e l in
     (in_system t.first.0 c r k a.2 w.0, omega (arith, one, b))) in
     let sum = bases_append again (group_reset_ack c r status ∷ []) in
-    rw (range_sent t c r [] (moving (in_range t c r) (λ _. on_grs) (again ++ (group_reset_ack c r status ∷ []))) T m h) (omega (arith, few, sum))
-counted t E (group_reset_ack c r s) T m f st a h = rw (range_sent t c r s _ T m h) (go (is_counted t c r))
+    rw (range_reply t c r [] (moving (in_range t c r) (λ _. on_grs) (again ++ (group_reset_ack c r status ∷ []))) T m h) (omega (arith, few, sum))
+counted t E (group_reset_ack c r s) T m f st a h = rw (range_reply t c r s _ T m h) (go (is_counted t c r))
   where
     go : (b : Bool) → bases (cond b (moving (in_range t c r) (λ k. on_gra (is_named r s (k - (c - t.first.0)))) []) nothing).sent + 1 ≤ 1 + 2 * most (t.systems * 32) (further_at E t.first.0 (group_reset_ack c r s) T)
     go true = omega arith

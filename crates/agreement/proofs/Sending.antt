@@ -1,5 +1,5 @@
 -- All that is sent in reply to a message is accepted by the other end.
-use Rattle.std.proofs.Common.{◌≤◌, ◌≡◌, ℕ, ◌+◌, ◌-◌, ◌/◌, Bool, true, false, cond, not, ◌&&◌, eqb, leb, List, [], ◌∷◌, ◌++◌, Ok, Result, sym, refl, ap, ◌∙◌, subst, arith}
+use Rattle.std.proofs.Common.{◌≤◌, ◌≡◌, ℕ, ◌+◌, ◌-◌, ◌/◌, Bool, true, false, cond, ◌&&◌, eqb, leb, List, [], ◌∷◌, ◌++◌, Ok, sym, refl, ap, ◌∙◌, arith}
 use Rattle.std.proofs.lemmas.Bool.{eqb-true, and_parts, leb-true, le-leb}
 use Rattle.status.specs.Bits.{is_named, octets_for, set_bits}
 use Rattle.status.proofs.Bits.{set_few}
@@ -13,23 +13,16 @@ use Rattle.message.proofs.RoundTrip.{may_write}
 use Rattle.circuit.specs.Circuits.{is_standing, is_none, block_of}
 use Rattle.circuit.specs.declared.record.Circuit.{Circuit}
 use Rattle.circuit.specs.Signals.{unexpected, on_gra}
-use Rattle.refusal.specs.declared.reasons.Refusal.{Refusal}
-use Rattle.refusal.specs.declared.reasons.Refusal.TheVariants.{Address}
 use Rattle.supervision.specs.declared.trunk.Config.{Config}
 use Rattle.supervision.specs.Groups.{groups, status_by}
-use Rattle.supervision.specs.Moves.{Move, some_from}
+use Rattle.supervision.specs.Moves.{Move}
 use Rattle.supervision.specs.Orders.{circuit_of, only, release_message, why_of}
-use Rattle.supervision.specs.Receiving.{as_cic, nothing, heard, moving, if_so as msg_if, to_one, is_range, in_range, marked, to_range, ask_again, shows, is_counted, is_unexpected}
+use Rattle.supervision.specs.Receiving.{as_cic, nothing, heard, moving, if_so as msg_if, to_one, in_range, marked, to_range, ask_again, shows, is_counted, is_unexpected}
 use Rattle.supervision.specs.Trunks.{placed}
-use Rattle.supervision.proofs.Allowing.{past, same_move}
 use Rattle.supervision.specs.Answering.{answer}
 use Rattle.supervision.proofs.Bits.{named_by_test, status_length}
 use Rattle.agreement.proofs.Passing.{Passes, Sends, Each, each_append, may_be_sent, found_addressed, single_passes, complete_passes, release_passes, group_for_passes, groups_pass}
-use Rattle.agreement.proofs.Standing.{Fitting, Standing}
-
--- messages of a move are those of another
-same_sent : (t : Config) (E : ℕ → Bool) (x m : Move) → ◌≡◌ {A = Result Move Refusal} (Ok x) (Ok m) → Each (Sends t E) x.sent → Each (Sends t E) m.sent
-same_sent t E x m e h = subst (λ (y : Move). Each (Sends t E) y.sent) (same_move x m e) h
+use Rattle.agreement.proofs.Standing.{Fitting, Standing, one_reply, range_reply}
 
 if_passes : (t : Config) (E : ℕ → Bool) (b : Bool) (msg : Msg) → Sends t E msg → Each (Sends t E) (msg_if b msg)
 if_passes t E true msg p = (p, tt)
@@ -37,17 +30,11 @@ if_passes t E false msg p = tt
 
 one_sent : (t : Config) (E : ℕ → Bool) (c : ℕ) (r : Circuit → _) (ans : Circuit → List Msg) (T : List Circuit) (m : Move)
     → to_one t c r ans T ≡ Ok m → ((x : Circuit) → Each (Sends t E) (ans x)) → Each (Sends t E) m.sent
-one_sent t E c r ans T m h p =
-    let x = circuit_of t (as_cic c) T in
-    let found = past (not x.equipped) Address _ m h in
-    same_sent t E (moving (only t (as_cic c)) (λ _. r) (ans x)) m found.1 (p x)
+one_sent t E c r ans T m h p = rw (one_reply t c r ans T m h) (p (placed T (c - t.first.0)))
 
 range_sent : (t : Config) (E : ℕ → Bool) (c r : ℕ) (s : List ℕ) (x : Move) (T : List Circuit) (m : Move)
     → to_range t c r s x T ≡ Ok m → Each (Sends t E) x.sent → Each (Sends t E) m.sent
-range_sent t E c r s x T m h p =
-    let inside = past (not (is_range t c r)) Address _ m h in
-    let found = past (some_from (λ j y. marked t c r s j && not y.equipped) 0 T) Address _ m inside.1 in
-    same_sent t E x m found.1 p
+range_sent t E c r s x T m h p = rw (range_reply t c r s x T m h) p
 
 -- the hardware block asked again names the circuit of the message
 ask_passes : (t : Config) (E : ℕ → Bool) (c : ℕ) (T : List Circuit) → Fitting t E → (t.first.0 ≤ c) × (E (c - t.first.0) ≡ true) → Each (Sends t E) (ask_again t c T)
