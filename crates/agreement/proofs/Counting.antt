@@ -52,7 +52,7 @@ pub bases_append : (xs ys : List Msg) → bases (xs ++ ys) ≡ bases xs + bases 
 bases_append [] ys = omega arith
 bases_append (m ∷ xs) ys = let e = bases_append xs ys in omega (arith, e)
 
--- what a message, or none, has further requests sent for
+-- the further requests that are sent at once, for a message or for none
 abbrev pub further_of : Option Signal → Circuit → ℕ
 further_of None c = 0
 further_of (Some m) c = further m c

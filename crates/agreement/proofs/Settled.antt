@@ -1,4 +1,4 @@
--- How much work is left, and that it can be done.
+-- The measure is at least the messages on the lines and at most the bound, and receiving empties the lines.
 use Rattle.std.proofs.Common.{◌≡◌, ℕ, zero, suc, ◌+◌, ◌*◌, ◌<◌, ◌≤◌, Bool, true, false, cond, not, ◌⊎◌, inl, inr, List, [], ◌∷◌, length, is_ok, replicate, Some, None, Ok, Err, Option, Result, sym, refl, ⊎_elim, subst, arith}
 use Rattle.std.proofs.lemmas.Bool.{false≢true}
 use Rattle.std.proofs.lemmas.List.{length-replicate, nil_from_length}
@@ -20,13 +20,13 @@ use Rattle.agreement.specs.Settling.{Receives, Later, at_once, near_receives, fa
 use Rattle.agreement.proofs.Counting.{base, at_most_two}
 use Rattle.agreement.proofs.Ends.{swapped}
 use Rattle.agreement.proofs.Event.{event}
-use Rattle.agreement.proofs.Falling.{weight_of, weight_at, heft, calls}
+use Rattle.agreement.proofs.Falling.{weight_of, weight_at, most_weight, calls}
 use Rattle.agreement.proofs.Opened.{circuits}
 use Rattle.agreement.proofs.Running.{known, agreement}
-use Rattle.agreement.proofs.Settling.{octets_load, line_load, work_of, work_falls}
+use Rattle.agreement.proofs.Settling.{octets_remaining, line_remaining, work_of, work_falls}
 use Rattle.agreement.proofs.Signals.{Signal, iam}
 use Rattle.agreement.proofs.Total.{total, most_bound}
-use Rattle.agreement.proofs.Weight.{weight, held}
+use Rattle.agreement.proofs.Weight.{weight, in_call}
 
 -- ## The least and the most
 
@@ -42,7 +42,7 @@ weighs_two : (m : Signal) (s r : Circuit) → weight s r m ≤ 2
 weighs_two iam s r = grind arith
 weighs_two m s r = grind arith
 
-heft_two : (n : ℕ) (E : ℕ → Bool) (first : ℕ) (S R : List Circuit) (m : Msg) → heft n E first S R m ≤ 2
+heft_two : (n : ℕ) (E : ℕ → Bool) (first : ℕ) (S R : List Circuit) (m : Msg) → most_weight n E first S R m ≤ 2
 heft_two n E first S R m = most_bound n 2 (weight_at E first S R m) (λ k l. go (E k) (event first k m) (placed S k) (placed R k))
   where
     go : (b : Bool) (e : Option Signal) (s r : Circuit) → cond b (weight_of e s r) 0 ≤ 2
@@ -50,19 +50,19 @@ heft_two n E first S R m = most_bound n 2 (weight_at E first S R m) (λ k l. go 
     go true (Some x) s r = weighs_two x s r
     go false e s r = omega arith
 
-line_least : (n : ℕ) (E : ℕ → Bool) (first : ℕ) (S R : List Circuit) (l : List (List ℕ)) → length l ≤ line_load n E first S R l
+line_least : (n : ℕ) (E : ℕ → Bool) (first : ℕ) (S R : List Circuit) (l : List (List ℕ)) → length l ≤ line_remaining n E first S R l
 line_least n E first S R [] = omega arith
 line_least n E first S R (o ∷ l) = let rest = line_least n E first S R l in let here = go (decode o) in omega (arith, rest, here)
   where
-    go : (r : Result Msg MessageFault) → 1 ≤ octets_load n E first S R r
+    go : (r : Result Msg MessageFault) → 1 ≤ octets_remaining n E first S R r
     go (Err f) = omega arith
     go (Ok m) = let z = at_least_one m in omega (arith, z)
 
-line_most : (n : ℕ) (E : ℕ → Bool) (first : ℕ) (S R : List Circuit) (l : List (List ℕ)) → line_load n E first S R l ≤ 6 * length l
+line_most : (n : ℕ) (E : ℕ → Bool) (first : ℕ) (S R : List Circuit) (l : List (List ℕ)) → line_remaining n E first S R l ≤ 6 * length l
 line_most n E first S R [] = omega arith
 line_most n E first S R (o ∷ l) = let rest = line_most n E first S R l in let here = go (decode o) in omega (arith, rest, here)
   where
-    go : (r : Result Msg MessageFault) → octets_load n E first S R r ≤ 6
+    go : (r : Result Msg MessageFault) → octets_remaining n E first S R r ≤ 6
     go (Err f) = omega arith
     go (Ok m) = let z = at_most_two m in let w = heft_two n E first S R m in omega (arith, z, w)
 
@@ -73,7 +73,7 @@ total_front (suc n) f = let e = total_front n f in omega (arith, e)
 calls_run : (T : List Circuit) → calls (length T) T ≡ connected T
 calls_run [] = refl
 calls_run (c ∷ T) =
-    let a = total_front (length T) (λ k. held (placed (c ∷ T) k)) in
+    let a = total_front (length T) (λ k. in_call (placed (c ∷ T) k)) in
     let b = calls_run T in
     omega (arith, a, b)
 

@@ -1,4 +1,4 @@
--- The lines empty.
+-- What is left to be received, of two ends and two lines, and that each receive makes it less.
 use Rattle.std.proofs.Common.{◌≡◌, ℕ, ◌+◌, ◌*◌, ◌<◌, ◌≤◌, Bool, false, List, [], ◌∷◌, ◌++◌, map, length, Ok, Err, Result, sym, refl, ap, ◌∙◌, subst, arith}
 use Rattle.status.specs.declared.circuit.Cic.{Cic}
 use Rattle.message.specs.Decode.{decode}
@@ -20,7 +20,7 @@ use Rattle.agreement.specs.Runs.{State, after_move, lends, trunk, with_line}
 use Rattle.agreement.specs.Settling.{Receives}
 use Rattle.agreement.proofs.Counting.{base}
 use Rattle.agreement.proofs.Ends.{Inv}
-use Rattle.agreement.proofs.Falling.{weight_at, load, loads, calls, Same, load_up, same_after, falls}
+use Rattle.agreement.proofs.Falling.{weight_at, remaining, all_remaining, calls, Same, remaining_up, same_after, falls}
 use Rattle.agreement.proofs.Keeping.{standing_after}
 use Rattle.agreement.proofs.Octets.{AllOnLine, plain_event}
 use Rattle.agreement.proofs.Passing.{Passes, Each, own_passes}
@@ -32,52 +32,52 @@ use Rattle.agreement.proofs.Total.{most_le}
 
 -- ## A line
 
-abbrev pub octets_load : ℕ → (ℕ → Bool) → ℕ → List Circuit → List Circuit → Result Msg MessageFault → ℕ
-octets_load n E first S R (Err f) = 1
-octets_load n E first S R (Ok m) = load n E first S R m
+abbrev pub octets_remaining : ℕ → (ℕ → Bool) → ℕ → List Circuit → List Circuit → Result Msg MessageFault → ℕ
+octets_remaining n E first S R (Err f) = 1
+octets_remaining n E first S R (Ok m) = remaining n E first S R m
 
-abbrev pub line_load : ℕ → (ℕ → Bool) → ℕ → List Circuit → List Circuit → List (List ℕ) → ℕ
-line_load n E first S R [] = 0
-line_load n E first S R (o ∷ l) = octets_load n E first S R (decode o) + line_load n E first S R l
+abbrev pub line_remaining : ℕ → (ℕ → Bool) → ℕ → List Circuit → List Circuit → List (List ℕ) → ℕ
+line_remaining n E first S R [] = 0
+line_remaining n E first S R (o ∷ l) = octets_remaining n E first S R (decode o) + line_remaining n E first S R l
 
-load_append : (n : ℕ) (E : ℕ → Bool) (first : ℕ) (S R : List Circuit) (l o : List (List ℕ)) → line_load n E first S R (l ++ o) ≡ line_load n E first S R l + line_load n E first S R o
-load_append n E first S R [] o = omega arith
-load_append n E first S R (x ∷ l) o = let e = load_append n E first S R l o in omega (arith, e)
+remaining_append : (n : ℕ) (E : ℕ → Bool) (first : ℕ) (S R : List Circuit) (l o : List (List ℕ)) → line_remaining n E first S R (l ++ o) ≡ line_remaining n E first S R l + line_remaining n E first S R o
+remaining_append n E first S R [] o = omega arith
+remaining_append n E first S R (x ∷ l) o = let e = remaining_append n E first S R l o in omega (arith, e)
 
-line_up : (n : ℕ) (E : ℕ → Bool) (first : ℕ) (S S' R R' : List Circuit) (l : List (List ℕ)) → Same E S S' → Same E R R' → line_load n E first S' R' l ≤ line_load n E first S R l
+line_up : (n : ℕ) (E : ℕ → Bool) (first : ℕ) (S S' R R' : List Circuit) (l : List (List ℕ)) → Same E S S' → Same E R R' → line_remaining n E first S' R' l ≤ line_remaining n E first S R l
 line_up n E first S S' R R' [] p q = omega arith
 line_up n E first S S' R R' (o ∷ l) p q =
     let rest = line_up n E first S S' R R' l p q in
     let here = go (decode o) in
     omega (arith, rest, here)
   where
-    go : (r : Result Msg MessageFault) → octets_load n E first S' R' r ≤ octets_load n E first S R r
+    go : (r : Result Msg MessageFault) → octets_remaining n E first S' R' r ≤ octets_remaining n E first S R r
     go (Err f) = omega arith
-    go (Ok m) = load_up n E first S S' R R' m p q
+    go (Ok m) = remaining_up n E first S S' R R' m p q
 
 base_plain : (m : Msg) → base (plain m) ≡ base m
 base_plain (grouped c Cgb i r s) = refl
 base_plain m = refl
 
-load_plain : (n : ℕ) (E : ℕ → Bool) (first : ℕ) (S R : List Circuit) (m : Msg) → load n E first S R (plain m) ≤ load n E first S R m
-load_plain n E first S R m =
+remaining_plain : (n : ℕ) (E : ℕ → Bool) (first : ℕ) (S R : List Circuit) (m : Msg) → remaining n E first S R (plain m) ≤ remaining n E first S R m
+remaining_plain n E first S R m =
     let b = base_plain m in
     let z = most_le n (weight_at E first S R (plain m)) (weight_at E first S R m) (λ k l. rw (plain_event first k m) (omega arith)) in
     omega (arith, b, z)
 
-load_sent : (t : Config) (E : ℕ → Bool) (n : ℕ) (first : ℕ) (S R : List Circuit) (ms : List Msg) → Each (Passes t E) ms → line_load n E first S R (map encode ms) ≤ loads n E first S R ms
-load_sent t E n first S R [] p = omega arith
-load_sent t E n first S R (m ∷ ms) p =
-    let rest = load_sent t E n first S R ms p.1 in
-    let here = load_plain n E first S R m in
-    let z = ap (octets_load n E first S R) (written_back m p.0.allowed) in
+remaining_sent : (t : Config) (E : ℕ → Bool) (n : ℕ) (first : ℕ) (S R : List Circuit) (ms : List Msg) → Each (Passes t E) ms → line_remaining n E first S R (map encode ms) ≤ all_remaining n E first S R ms
+remaining_sent t E n first S R [] p = omega arith
+remaining_sent t E n first S R (m ∷ ms) p =
+    let rest = remaining_sent t E n first S R ms p.1 in
+    let here = remaining_plain n E first S R m in
+    let z = ap (octets_remaining n E first S R) (written_back m p.0.allowed) in
     omega (arith, rest, here, z)
 
 -- ## Two ends
 
 abbrev pub work_of : ℕ → (ℕ → Bool) → ℕ → State → State → ℕ
 work_of n E first a b =
-    (line_load n E first a.table b.table a.line + line_load n E first b.table a.table b.line) + 2 * (calls n a.table + calls n b.table)
+    (line_remaining n E first a.table b.table a.line + line_remaining n E first b.table a.table b.line) + 2 * (calls n a.table + calls n b.table)
 
 pub work_falls : (first : Cic) (ws : List ℕ) (x y : Bool) (E : ℕ → Bool) (a b a' : State) (l : List (List ℕ)) → Fitting (trunk first ws x) E
     → Inv first ws x y E a b → Receives (trunk first ws x) a b.line a' l
@@ -104,9 +104,9 @@ work_falls first ws x y E a b a' l f i r =
     let kept : Same E U U = λ k e why. refl in
     let out = line_up n E first.0 T (table_of m T) U U a.line same kept in
     let back = line_up n E first.0 U U T (table_of m T) l kept same in
-    let new = load_sent t E n first.0 (table_of m T) U m.sent sent in
-    let sum = load_append n E first.0 (table_of m T) U a.line (map encode m.sent) in
-    let front = ap (line_load n E first.0 U T) r.stood in
-    let read = ap (octets_load n E first.0 U T) on.0.read in
+    let new = remaining_sent t E n first.0 (table_of m T) U m.sent sent in
+    let sum = remaining_append n E first.0 (table_of m T) U a.line (map encode m.sent) in
+    let front = ap (line_remaining n E first.0 U T) r.stood in
+    let read = ap (octets_remaining n E first.0 U T) on.0.read in
     let goal : work_of n E first.0 (after_move t m a) (with_line l b) < work_of n E first.0 a b = omega (arith, lower, out, back, new, sum, front, read) in
     subst (λ (s : State). work_of n E first.0 s (with_line l b) < work_of n E first.0 a b) (sym r.moved) goal

@@ -1,4 +1,6 @@
--- What may still come of a message, as one circuit sees it: the requests that are sent in reply to no request.
+-- The further requests that may come of a message, as one circuit sees it. A request is BLO, UBL, RSC, REL, CGB, CGU or GRS; a further one is
+-- sent in reply to a message, but for the answer to that. Receiving settles since these get fewer: they depend only on which local
+-- blocks stand, which no message changes, and on the calls.
 use Rattle.std.proofs.Common.{◌≡◌, ℕ, ◌+◌, ◌≤◌, Bool, true, false, cond, not, List, [], ◌∷◌, arith}
 use Rattle.message.specs.declared.kinds.BlockType.{BlockType}
 use Rattle.message.specs.declared.kinds.BlockType.TheVariants.{Maintenance, Hardware}
@@ -13,7 +15,7 @@ use Rattle.agreement.proofs.Signals.{Signal, iam, progress, rel, rlc, blo, bla, 
 abbrev pub stands : BlockType → Circuit → Bool
 stands why c = is_standing (block_of why c.local)
 
--- the requests that a message can still cause, from a circuit s to a circuit r
+-- the further requests that a message may cause, from a circuit s to a circuit r
 abbrev pub weight : Circuit → Circuit → Signal → ℕ
 weight s r iam = 1
 weight s r blo = bit_of (not (stands Maintenance s))
@@ -28,11 +30,11 @@ weight s r (cgu why) = bit_of (stands why s)
 weight s r (cgua why) = bit_of (stands why r)
 weight s r m = 0
 
--- and a call that runs: an RLC is answered by REL
-abbrev pub held : Circuit → ℕ
-held c = bit_of (is_connected c.call)
+-- those that a call may cause: an RLC on a calling or talking circuit is answered by REL
+abbrev pub in_call : Circuit → ℕ
+in_call c = bit_of (is_connected c.call)
 
--- the requests that are sent in reply to a message: all but the answer to it
+-- the further requests that are sent at once
 abbrev pub further : Signal → Circuit → ℕ
 further rlc c = bit_of (is_unexpected c)
 further bla c = bit_of (is_none c.local.maintenance)
@@ -65,16 +67,16 @@ still_stands why b (cgba x) c = search arith
 still_stands why b (cgua x) c = search arith
 still_stands why b (gra x) c = search arith
 
--- a call that ends by an RLC, and one that begins by IAM
-abbrev pub gone : Signal → Circuit → ℕ
-gone rlc c = bit_of (is_unexpected c)
-gone m c = 0
+-- a calling or talking circuit that becomes releasing by RLC, and one that may begin by IAM
+abbrev pub released : Signal → Circuit → ℕ
+released rlc c = bit_of (is_unexpected c)
+released m c = 0
 
-abbrev pub comes : Signal → ℕ
-comes iam = 1
-comes m = 0
+abbrev pub begins : Signal → ℕ
+begins iam = 1
+begins m = 0
 
--- a request about blocks hands its weight to its answer
+-- a request about blocks hands what it may cause on to its answer
 abbrev pub hands : Signal → Bool
 hands blo = true
 hands ubl = true
@@ -82,26 +84,26 @@ hands (cgb why) = true
 hands (cgu why) = true
 hands m = false
 
--- no other message makes a call run
-pub calmer : (b : Bool) (m : Signal) (c : Circuit) → held (hear b m c).circuit + gone m c ≤ held c + comes m
-calmer b iam c = grind arith
-calmer b progress c = grind arith
-calmer b rel c = grind arith
-calmer b rlc c = grind arith
-calmer b blo c = grind arith
-calmer b bla c = grind arith
-calmer b ubl c = grind arith
-calmer b uba c = grind arith
-calmer b rsc c = grind arith
-calmer b grs c = grind arith
-calmer b (cgb x) c = grind arith
-calmer b (cgu x) c = grind arith
-calmer b (cgba x) c = grind arith
-calmer b (cgua x) c = grind arith
-calmer b (gra x) c = grind arith
+-- no other message makes a circuit calling or talking
+pub calls_kept : (b : Bool) (m : Signal) (c : Circuit) → in_call (hear b m c).circuit + released m c ≤ in_call c + begins m
+calls_kept b iam c = grind arith
+calls_kept b progress c = grind arith
+calls_kept b rel c = grind arith
+calls_kept b rlc c = grind arith
+calls_kept b blo c = grind arith
+calls_kept b bla c = grind arith
+calls_kept b ubl c = grind arith
+calls_kept b uba c = grind arith
+calls_kept b rsc c = grind arith
+calls_kept b grs c = grind arith
+calls_kept b (cgb x) c = grind arith
+calls_kept b (cgu x) c = grind arith
+calls_kept b (cgba x) c = grind arith
+calls_kept b (cgua x) c = grind arith
+calls_kept b (gra x) c = grind arith
 
--- what is sent in reply was weighed before, or is the release of a call
-pub caused : (m : Signal) (c d : Circuit) → further m c ≤ weight d c m + gone m c
+-- what is sent at once was counted before, or is the release of a call
+pub caused : (m : Signal) (c d : Circuit) → further m c ≤ weight d c m + released m c
 caused iam c d = grind arith
 caused progress c d = grind arith
 caused rel c d = grind arith
@@ -118,7 +120,7 @@ caused (cgba x) c d = grind arith
 caused (cgua x) c d = grind arith
 caused (gra x) c d = grind arith
 
--- and no more comes of it, but for what a request hands on
+-- and no more may come of the reply, but for what a request hands on
 pub handed : (m : Signal) (c d : Circuit) → weights c d (answers m c) ≤ cond (hands m) (weight d c m) 0
 handed iam c d = grind arith
 handed progress c d = grind arith
