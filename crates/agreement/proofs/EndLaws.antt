@@ -24,20 +24,20 @@ Steady E T m = (k : ℕ) → E k ≡ true → is_group (placed (table_of m T) k)
 pub shift_of : (E : ℕ → Bool) (T : List Circuit) (m : Move) → Steady E T m → Shift E T m
 shift_of E T m h = ((λ _ b. b), h)
 
--- ## In each of its moves
+-- ## The laws
 
--- each rule may be applied where it is, group resets begin and end for whole PCM systems, and all that is sent is accepted
+-- in each move: every rule may be applied where it is, group resets begin and end for whole PCM systems, and what is sent is accepted
 pub record Kept (t : Config) (E : ℕ → Bool) (T : List Circuit) (m : Move) : Type 0 where
   pub allowed : Allowed m T
   pub shift : Shift E T m
   pub sent : Each (Sends t E) m.sent
 
--- ## In what it does by itself, on each circuit
+-- in what it does by itself: also the laws on each circuit
 pub record Acted (t : Config) (E : ℕ → Bool) (T : List Circuit) (m : Move) : Type 0 where
   pub kept : Kept t E T m
   pub own : (k : ℕ) → E k ≡ true → OwnLaws (placed T k) (placed (table_of m T) k) (shown t.first.0 k m.sent)
 
--- ## With a message of the other end, on each circuit
+-- and with a message of the other end
 pub record Heard (t : Config) (E : ℕ → Bool) (T : List Circuit) (msg : Msg) (m : Move) : Type 0 where
   pub kept : Kept t E T m
   pub heard : (k : ℕ) → E k ≡ true → HeardBy (event t.first.0 k msg) (placed T k) (placed (table_of m T) k) (shown t.first.0 k m.sent)

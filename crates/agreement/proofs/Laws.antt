@@ -1,6 +1,6 @@
 -- The laws of an end, on one circuit: all that an exchange has to keep there for two exchanges to agree.
 -- They look only at what an exchange does: other rules may stand at either end, if they keep them.
-use Rattle.std.proofs.Common.{◌≡◌, ℕ, Bool, true, false, cond, ◌||◌, ◌⊎◌, eqb, List, [], map, Some, None, Option}
+use Rattle.std.proofs.Common.{◌≡◌, Bool, true, false, not, ◌⊎◌, List, [], map, Some, None, Option}
 use Rattle.message.specs.declared.kinds.BlockType.{BlockType}
 use Rattle.message.specs.declared.kinds.BlockType.TheVariants.{Maintenance, Hardware}
 use Rattle.circuit.specs.Circuits.{block_of, is_asked, is_group, is_lifting, is_releasing, is_single, is_standing}
@@ -57,15 +57,15 @@ call_back why (cgba x) = quiet
 call_back why (cgua x) = quiet
 call_back why (gra b) = quiet
 
--- what the far end should know
+-- what the far end is to know of it
 abbrev pub value : BlockType → Circuit → Bool
 value why c = is_standing (block_of why c.local)
 
--- what is known of the far end
+-- what is known of the far block
 abbrev pub copy : BlockType → Circuit → Bool
 copy why c = block_of why c.far
 
--- an answer is waited for
+-- GRA is waited for, which says what the far block is
 abbrev pub waits : BlockType → Circuit → Bool
 waits Maintenance c = is_group c.reset
 waits Hardware c = false
@@ -83,61 +83,35 @@ waiting for_release c = is_releasing c.call
 waiting for_single c = is_single c.reset
 waiting for_group c = is_group c.reset
 
-abbrev of : BlockType → ℕ → ℕ → ℕ
-of Maintenance m h = m
-of Hardware m h = h
+abbrev is_maintenance : BlockType → Bool
+is_maintenance Maintenance = true
+is_maintenance Hardware = false
 
--- a number for each wait, and 9 for none
-abbrev code : Wait → ℕ
-code (for_block why) = of why 0 1
-code (for_lift why) = of why 2 3
-code for_release = 4
-code for_single = 5
-code for_group = 6
+abbrev same_type : BlockType → BlockType → Bool
+same_type Maintenance y = is_maintenance y
+same_type Hardware y = not (is_maintenance y)
 
-abbrev request : Signal → ℕ
-request iam = 9
-request progress = 9
-request rel = 4
-request rlc = 9
-request blo = 0
-request bla = 9
-request ubl = 2
-request uba = 9
-request rsc = 5
-request grs = 6
-request (cgb why) = of why 0 1
-request (cgu why) = of why 2 3
-request (cgba why) = 9
-request (cgua why) = 9
-request (gra b) = 9
-
--- an answer answers one wait, and RLC two
-abbrev answer : Signal → ℕ
-answer iam = 9
-answer progress = 9
-answer rel = 9
-answer rlc = 4
-answer blo = 9
-answer bla = 0
-answer ubl = 9
-answer uba = 2
-answer rsc = 9
-answer grs = 9
-answer (cgb why) = 9
-answer (cgu why) = 9
-answer (cgba why) = of why 0 1
-answer (cgua why) = of why 2 3
-answer (gra b) = 6
-
-abbrev answer_too : Signal → ℕ
-answer_too m = cond (eqb (answer m) 4) 5 9
-
+-- the request that asks for it
 abbrev pub asks_for : Wait → Signal → Bool
-asks_for x m = eqb (code x) (request m)
+asks_for (for_block why) blo = is_maintenance why
+asks_for (for_block why) (cgb y) = same_type why y
+asks_for (for_lift why) ubl = is_maintenance why
+asks_for (for_lift why) (cgu y) = same_type why y
+asks_for for_release rel = true
+asks_for for_single rsc = true
+asks_for for_group grs = true
+asks_for x m = false
 
+-- and the answer that ends the wait
 abbrev pub ends_wait : Wait → Signal → Bool
-ends_wait x m = eqb (code x) (answer m) || eqb (code x) (answer_too m)
+ends_wait (for_block why) bla = is_maintenance why
+ends_wait (for_block why) (cgba y) = same_type why y
+ends_wait (for_lift why) uba = is_maintenance why
+ends_wait (for_lift why) (cgua y) = same_type why y
+ends_wait for_release rlc = true
+ends_wait for_single rlc = true
+ends_wait for_group (gra b) = true
+ends_wait x m = false
 
 -- ## What an end does by itself, from the circuit c to the circuit d
 

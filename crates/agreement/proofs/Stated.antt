@@ -1,4 +1,4 @@
--- What is promised is a fact, so it holds where it is only known that some run led here.
+-- What is promised holds where it is only known that some run led here, and where the words told are kept as numbers.
 use Rattle.std.proofs.Common.{◌≡◌, ℕ, ◌+◌, Bool, true, false, not, List, [], ◌∷◌, map, Option, sym, subst}
 use Rattle.std.proofs.Math.Logic.{∥∥₁_elim}
 use Rattle.std.specs.Coded.{×_prop, Unit-prop}
@@ -35,7 +35,7 @@ seizes_prop t s = hlevel props
 promised_prop : (t u : Config) (a b : State) → IsProp (Promised t u a b)
 promised_prop t u a b = hlevel (props, turns_prop, taken_prop, seizes_prop)
 
--- a scene of which the numbers told are kept
+-- the same with the words that the numbers told say
 abbrev pub numbered : State → List ℕ → State
 numbered s ns = record s { told = read ns }
 
