@@ -38,13 +38,14 @@ use Rattle.supervision.proofs.Allowing.{past, same_move, accepted, and_ok}
 use Rattle.supervision.specs.Answering.{Order, seize, release as release_order, block, unblock, reset as reset_order, group_block, group_unblock, group_reset as group_reset_order, answer}
 use Rattle.supervision.proofs.Concerned.{every_slot_names}
 use Rattle.supervision.proofs.Bits.{some_below}
+use Rattle.supervision.proofs.Accepted.{found_at, after_unnamed, after_named, gave_up, equipped_inside}
 use Rattle.agreement.proofs.EndLaws.{Shift, shift_of, Acted}
 use Rattle.agreement.proofs.Event.{when, of_kind, event, push, shown, push_when, group_event, group_for_shown, reset_event}
 use Rattle.agreement.proofs.Laws.{OwnLaws}
 use Rattle.agreement.proofs.Passing.{Sends, Each, found_addressed, single_passes, release_passes, call_passes, group_passes, reset_passes, group_for_passes}
 use Rattle.agreement.proofs.Rules.{Own, stays, seizes, releases, blocks_one, unblocks_one, blocks, unblocks, resets, resets_group, repeats_rel, repeats_blo, repeats_ubl, repeats_rsc, repeats_cgb, repeats_cgu, repeats_grs, own_laws}
 use Rattle.agreement.proofs.Signals.{Signal, iam, rel, blo, ubl, rsc, grs, if_so}
-use Rattle.agreement.proofs.Standing.{Fitting, Standing, found_at, after_unnamed, after_named, gave_up, equipped_inside}
+use Rattle.agreement.proofs.Standing.{Fitting, Standing}
 
 acted_same : (t : Config) (E : ℕ → Bool) (T : List Circuit) (x m : Move) → ◌≡◌ {A = Result Move Refusal} (Ok x) (Ok m) → Acted t E T x → Acted t E T m
 acted_same t E T x m e h = subst (Acted t E T) (same_move x m e) h

@@ -26,10 +26,10 @@ use Rattle.supervision.proofs.Allowing.{same_move, and_ok}
 use Rattle.supervision.proofs.Some.{none, some}
 use Rattle.supervision.proofs.Keeping.{about-words}
 use Rattle.supervision.proofs.Naming.{unnamed, acts}
+use Rattle.supervision.proofs.Accepted.{equipped_inside}
 use Rattle.agreement.specs.Agreeing.{Asks, Seizes}
 use Rattle.agreement.specs.Runs.{State, lends}
 use Rattle.agreement.proofs.Acting.{seizable_open}
-use Rattle.agreement.proofs.Standing.{equipped_inside}
 
 -- the policy is asked
 may : (t : Config) (s : State) (body : List ℕ) (choice : Option Place) (words octets : List ℕ) → length s.table ≡ t.systems * 32 → length s.table ≤ length s.held

@@ -20,10 +20,11 @@ use Rattle.supervision.specs.Orders.{circuit_of, only, why_of, group_message, re
 use Rattle.supervision.specs.Receiving.{as_cic, moving, nothing, if_so as msg_if, to_one, in_range, marked, ask_again, shows, is_unexpected, is_counted, heard}
 use Rattle.supervision.specs.Trunks.{covers, placed}
 use Rattle.supervision.proofs.Bits.{bit_of, some_below}
+use Rattle.supervision.proofs.Accepted.{one_reply, range_reply}
 use Rattle.agreement.proofs.Event.{when, within, is_whole, event}
 use Rattle.agreement.proofs.Passing.{Addressed}
 use Rattle.agreement.proofs.Signals.{Signal, iam, progress, rel, rlc, blo, bla, ubl, uba, rsc}
-use Rattle.agreement.proofs.Standing.{Fitting, Standing, one_reply, range_reply}
+use Rattle.agreement.proofs.Standing.{Fitting, Standing}
 use Rattle.agreement.proofs.Total.{most, most_at}
 use Rattle.agreement.proofs.Weight.{further}
 

@@ -22,10 +22,10 @@ use Rattle.supervision.specs.Receiving.{as_cic, moving, nothing, if_so as msg_if
 use Rattle.supervision.specs.Trunks.{controls, cic_at, places, placed}
 use Rattle.supervision.proofs.Allowing.{past, same_move}
 use Rattle.supervision.proofs.Bits.{named_by_test}
+use Rattle.supervision.proofs.Accepted.{found_at, after_unnamed, after_named}
 use Rattle.agreement.proofs.Event.{when, within, is_whole, of_kind, event, push, shown, shown_append, push_when, group_for_shown, groups_shown}
 use Rattle.agreement.proofs.Rules.{hear, answers, hears, replies}
 use Rattle.agreement.proofs.Signals.{Signal, iam, progress, rel, rlc, blo, bla, ubl, uba, rsc, grs, cgb, cgu, cgba, cgua, gra, if_so}
-use Rattle.agreement.proofs.Standing.{found_at, after_unnamed, after_named}
 
 pub record HeardAt (t : Config) (T : List Circuit) (m : Move) (k : ℕ) (e : Option Signal) : Type 0 where
   pub now : placed (table_of m T) k ≡ (hears (controls t (cic_at t k)) e (placed T k)).circuit

@@ -13,9 +13,10 @@ use Rattle.message.specs.declared.kinds.Single.TheVariants.{Rsc, Blo, Ubl, Bla, 
 use Rattle.supervision.specs.declared.trunk.Config.{Config}
 use Rattle.supervision.specs.Orders.{why_of}
 use Rattle.supervision.specs.Trunks.{covers}
+use Rattle.supervision.proofs.Writable.{may_be_sent}
 use Rattle.agreement.proofs.Event.{when, within as in_reach, is_whole, of_kind, event, push, push_append, shown}
 use Rattle.agreement.proofs.Hearing.{IsWhole}
-use Rattle.agreement.proofs.Passing.{Addressed, Passes, Each, may_be_sent}
+use Rattle.agreement.proofs.Passing.{Addressed, Passes, Each}
 use Rattle.agreement.proofs.Signals.{Signal, gra}
 
 -- ## Spare bits are nothing to a circuit

@@ -10,11 +10,12 @@ use Rattle.supervision.specs.Opening.{is_equipment, are_equipment, fits_trunk, o
 use Rattle.supervision.specs.Trunks.{placed}
 use Rattle.supervision.proofs.Allowing.{past}
 use Rattle.supervision.proofs.Fresh.{open_sound, open_fresh, open_set_lem}
+use Rattle.supervision.proofs.Accepted.{equipped_inside}
 use Rattle.agreement.specs.Runs.{trunk, fresh_state}
 use Rattle.agreement.proofs.Ends.{End, Inv}
 use Rattle.agreement.proofs.Laws.{Wait, waiting}
 use Rattle.agreement.proofs.Linking.{Link}
-use Rattle.agreement.proofs.Standing.{Fitting, Standing, equipped_inside}
+use Rattle.agreement.proofs.Standing.{Fitting, Standing}
 
 abbrev pub circuits : List ℕ → ℕ → Bool
 circuits ws k = (placed (open_table ws) k).equipped

@@ -1,15 +1,12 @@
 -- Every message that is sent names circuits of the other end, keeps its limits, and so is accepted there.
 use Rattle.std.proofs.Common.{◌≡◌, ℕ, zero, suc, ◌+◌, ◌-◌, ◌*◌, ◌/◌, ◌%◌, ◌^◌, ◌<◌, ◌≤◌, Bool, true, false, cond, not, ◌&&◌, eqb, ltb, leb, List, [], ◌∷◌, ◌++◌, length, None, Ok, sym, refl, ap, ◌∙◌, ⊎_elim, length-set, arith}
 use Rattle.std.proofs.lemmas.Bool.{leb-true, cases_Bool, false≢true, eqb-true, le-leb, lt-ltb, and_parts, and_right}
-use Rattle.status.specs.Bits.{cleared, octets_for, set_bits}
-use Rattle.status.proofs.Bits.{set_few}
+use Rattle.status.specs.Bits.{cleared, octets_for}
 use Rattle.status.specs.declared.circuit.Cic.{Cic}
-use Rattle.message.specs.Decode.{within}
-use Rattle.message.specs.Encode.{encode, sized, refusal_of}
+use Rattle.message.specs.Encode.{encode, refusal_of}
 use Rattle.message.proofs.RoundTrip.{may_write}
-use Rattle.message.specs.Msg.{Msg, single, release_complete, group_reset, group_reset_ack, grouped, release, call, cic_in}
+use Rattle.message.specs.Msg.{Msg, single, release_complete, group_reset, group_reset_ack, grouped, release, call}
 use Rattle.message.specs.declared.kinds.BlockType.{BlockType}
-use Rattle.message.specs.declared.kinds.BlockType.TheVariants.{Maintenance, Hardware}
 use Rattle.message.specs.declared.kinds.CallKind.TheVariants.{Iam, Acm, Con, Anm, Cpg}
 use Rattle.message.specs.declared.kinds.Grouped.{Grouped}
 use Rattle.message.specs.declared.kinds.Grouped.TheVariants.{Cgb, Cgu, Cgba, Cgua}
@@ -23,12 +20,14 @@ use Rattle.supervision.specs.Groups.{mask_by, group_for, groups_below, groups}
 use Rattle.supervision.specs.Moves.{Move, some_from}
 use Rattle.supervision.specs.Orders.{circuit_of, only, slots, status_of, group_message, reset_message, release_message}
 use Rattle.supervision.specs.Receiving.{as_cic, moving, if_so as msg_if, to_one, marked, to_range, ask_again, is_unexpected, heard}
-use Rattle.supervision.specs.Trunks.{covers, placed}
+use Rattle.supervision.specs.Trunks.{covers, first_of, placed}
 use Rattle.supervision.proofs.Masks.{named-slots}
 use Rattle.supervision.proofs.Some.{none}
 use Rattle.supervision.proofs.Concerned.{slot_positive, start_of, mask_names, mask_even}
+use Rattle.supervision.proofs.Writable.{may_be_sent, own_group}
+use Rattle.supervision.proofs.Accepted.{found_at}
 use Rattle.agreement.proofs.Event.{is_whole}
-use Rattle.agreement.proofs.Standing.{Fitting, Standing, found_at}
+use Rattle.agreement.proofs.Standing.{Fitting, Standing}
 
 -- the circuits that a message names are there, from the first CIC on, E of the places
 abbrev pub Addressed : ℕ → ℕ → (ℕ → Bool) → Msg → Type 0
@@ -72,9 +71,6 @@ pub own_passes : (t : Config) (E : ℕ → Bool) (ms : List Msg) → Each (Sends
 own_passes t E [] h = tt
 own_passes t E (m ∷ ms) h = (h.0.passes, own_passes t E ms h.1)
 
-pub may_be_sent : (m : Msg) → cic_in m ≤ 4095 → within m ≡ true → sized m ≡ true → refusal_of m ≡ None
-may_be_sent m l w z = let b : leb (cic_in m) 4095 ≡ true = le-leb (cic_in m) 4095 l in rw (z, b, w) refl
-
 -- ## What is sent about one circuit
 
 -- the CIC of a circuit fits
@@ -116,17 +112,10 @@ group_passes t E system what why mask f l even e =
           λ j q. e j (sym (ap (λ (g : ℕ → Bool). g j) (named-slots system mask even)) ∙ (ap (λ x. covers x 30 (status_of mask) j) (sym (start_of t system)) ∙ q)),
           rw (start_of t system, d) refl,
         );
-        allowed = may_be_sent (group_message t system what why mask) (omega (arith, l, z)) (limits why) refl;
+        allowed = own_group (first_of t system) what why (status_of mask) (omega (arith, l, z)) refl;
       };
       body = tt;
     }
-  where
-    few : leb (set_bits (status_of mask) 31) 32 ≡ true
-    few = let h = set_few (status_of mask) 31 in le-leb (set_bits (status_of mask) 31) 32 (omega (arith, h))
-
-    limits : (w : BlockType) → within (group_message t system what w mask) ≡ true
-    limits Maintenance = few
-    limits Hardware = few
 
 pub reset_passes : (t : Config) (E : ℕ → Bool) (system : ℕ) → Fitting t E → system < t.systems → Sends t E (reset_message t system)
 reset_passes t E system f l =

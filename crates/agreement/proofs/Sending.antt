@@ -21,8 +21,10 @@ use Rattle.supervision.specs.Receiving.{as_cic, nothing, heard, moving, if_so as
 use Rattle.supervision.specs.Trunks.{placed}
 use Rattle.supervision.specs.Answering.{answer}
 use Rattle.supervision.proofs.Bits.{named_by_test, status_length}
-use Rattle.agreement.proofs.Passing.{Passes, Sends, Each, each_append, may_be_sent, found_addressed, single_passes, complete_passes, release_passes, group_for_passes, groups_pass}
-use Rattle.agreement.proofs.Standing.{Fitting, Standing, one_reply, range_reply}
+use Rattle.supervision.proofs.Writable.{may_be_sent}
+use Rattle.supervision.proofs.Accepted.{one_reply, range_reply}
+use Rattle.agreement.proofs.Passing.{Passes, Sends, Each, each_append, found_addressed, single_passes, complete_passes, release_passes, group_for_passes, groups_pass}
+use Rattle.agreement.proofs.Standing.{Fitting, Standing}
 
 if_passes : (t : Config) (E : ℕ → Bool) (b : Bool) (msg : Msg) → Sends t E msg → Each (Sends t E) (msg_if b msg)
 if_passes t E true msg p = (p, tt)

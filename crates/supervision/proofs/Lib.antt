@@ -1,3 +1,4 @@
+pub mod Accepted
 pub mod Alike
 pub mod Allowing
 pub mod Bits
