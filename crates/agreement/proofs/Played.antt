@@ -77,6 +77,7 @@ played = record {
   lines = (refl, refl);
   near_told = refl;
   far_told = refl;
-  blocked = (refl, refl);
+  hardware = (refl, refl);
+  maintenance = (refl, refl);
   talking = (refl, refl);
 }

@@ -12,7 +12,7 @@ use Rattle.told.specs.declared.kinds.EndCause.TheVariants.{ReleaseReceived, Rele
 use Rattle.told.specs.declared.kinds.Word.TheVariants.{Send, Begun, Ended}
 use Rattle.refusal.specs.declared.reasons.Refusal.{Refusal}
 use Rattle.supervision.specs.declared.trunk.Config.{Config}
-use Rattle.supervision.specs.Answering.{Order, answer, seize, release as release_order, block}
+use Rattle.supervision.specs.Answering.{Order, answer, seize, release as release_order, block, group_block, group_reset}
 use Rattle.supervision.specs.Expiring.{expiring}
 use Rattle.supervision.specs.Moves.{Move}
 use Rattle.supervision.specs.Orders.{circuit_of}
@@ -72,11 +72,25 @@ first_cic = record { 0 = 0 }
 abbrev pub equipment : List ℕ
 equipment = 0xffff_fffe ∷ []
 
--- a block crosses a call on circuit 5, which is repeated meanwhile; both seize circuit 6, which the near end controls;
--- the far end answers there, and the near end releases the call on circuit 5
+abbrev pub five : Cic
+five = record { 0 = 5 }
+
+abbrev pub six : Cic
+six = record { 0 = 6 }
+
+-- a hardware block of circuits 3 and 17 crosses a group reset; then a block crosses a call on circuit 5, and is repeated meanwhile; both
+-- seize circuit 6, which the near end controls; the far end answers there, and the near end releases the call on circuit 5
 abbrev pub script : List Turn
 script =
-    near_does (orders (block (record { 0 = 5 })))
+    near_does (orders (group_block 1 0 0x0002_0008))
+    ∷ far_does (orders (group_reset 0))
+    ∷ far_does receives
+    ∷ near_does receives
+    ∷ near_does receives
+    ∷ far_does receives
+    ∷ far_does receives
+    ∷ near_does receives
+    ∷ near_does (orders (block five))
     ∷ far_does (orders (seize (0x0a ∷ []) (Some (record { 0 = 5 }))))
     ∷ near_does (orders (seize (0x0a ∷ []) (Some (record { 0 = 6 }))))
     ∷ far_does (orders (seize (0x0a ∷ []) (Some (record { 0 = 6 }))))
@@ -88,7 +102,7 @@ script =
     ∷ near_does receives
     ∷ far_does (calls 6 Acm (0x01 ∷ []))
     ∷ near_does receives
-    ∷ near_does (orders (release_order (record { 0 = 5 }) 0 16))
+    ∷ near_does (orders (release_order five 0 16))
     ∷ far_does receives
     ∷ near_does receives
     ∷ far_does receives
@@ -101,21 +115,16 @@ near_last = (play first_cic equipment true script (fresh_state 32 equipment) (fr
 abbrev pub far_last : State
 far_last = (play first_cic equipment true script (fresh_state 32 equipment) (fresh_state 32 equipment)).1
 
-abbrev pub five : Cic
-five = record { 0 = 5 }
-
-abbrev pub six : Cic
-six = record { 0 = 6 }
-
 pub record Played : Type 0 where
   pub reached : Reaches first_cic equipment true near_last far_last
   pub lines : (near_last.line ≡ []) × (far_last.line ≡ [])
   -- no step was refused: what each told
   pub near_told : near_last.told
-      ≡ Send 0 3 ∷ Begun Outgoing six ∷ Send 0 4 ∷ Send 0 3 ∷ Begun Incoming five ∷ Send 0 8 ∷ Ended ReleaseComplete five ∷ []
+      ≡ Send 0 11 ∷ Send 0 11 ∷ Send 11 10 ∷ Send 0 3 ∷ Begun Outgoing six ∷ Send 0 4 ∷ Send 0 3 ∷ Begun Incoming five ∷ Send 0 8 ∷ Ended ReleaseComplete five ∷ []
   pub far_told : far_last.told
-      ≡ Begun Outgoing five ∷ Send 0 4 ∷ Begun Outgoing six ∷ Send 0 4 ∷ Send 0 3 ∷ Ended DualSeizure six ∷ Begun Incoming six ∷ Send 0 3
+      ≡ Send 0 6 ∷ Send 0 11 ∷ Send 0 11 ∷ Begun Outgoing five ∷ Send 0 4 ∷ Begun Outgoing six ∷ Send 0 4 ∷ Send 0 3 ∷ Ended DualSeizure six ∷ Begun Incoming six ∷ Send 0 3
       ∷ Ended ReleaseReceived five ∷ Send 0 4 ∷ []
-  -- circuit 5 is blocked by the near end, circuit 6 has the call of the near end
-  pub blocked : (is_set (at near_last 5).local.maintenance ≡ true) × ((at far_last 5).far.maintenance ≡ true)
+  -- the blocks are set and known, and circuit 6 has the call of the near end
+  pub hardware : (is_set (at near_last 17).local.hardware ≡ true) × ((at far_last 17).far.hardware ≡ true)
+  pub maintenance : (is_set (at near_last 5).local.maintenance ≡ true) × ((at far_last 5).far.maintenance ≡ true)
   pub talking : ((at near_last 6).call ≡ Talking) × ((at far_last 6).call ≡ Talking)
