@@ -23,7 +23,7 @@ behind h (None, e) = (None, none)
     none (suc k) = e k
 
 -- every set allows some choice
-some_choice : (h : List Bool) → (choice : Option Place) × Chosen h choice
+pub some_choice : (h : List Bool) → (choice : Option Place) × Chosen h choice
 some_choice [] = (None, λ k. refl)
 some_choice (true ∷ h) = (Some (record { 0 = 0 }), refl)
 some_choice (false ∷ h) = behind h (some_choice h)

@@ -1,0 +1,6 @@
+pub mod Acting
+pub mod Exchanges
+pub mod Lines
+pub mod Runs
+pub mod Settling
+pub mod Stepping

@@ -1,0 +1,17 @@
+// Two exchanges and the two lines between them.
+#![tactic(auto)]
+
+mod acting;
+mod carrying;
+mod end;
+mod fault;
+mod incoming;
+mod line;
+mod showing;
+mod step;
+mod stepping;
+
+pub use end::End;
+pub use fault::Fault;
+pub use line::Line;
+pub use step::{Side, Step};
