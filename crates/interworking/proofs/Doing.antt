@@ -127,44 +127,46 @@ some_allowed held (Expire timer at kind) = (None, tt)
 some_allowed held (Receive octets) = (None, tt)
 
 -- without memory nothing changes
-pub wanting : (room : ℕ) (task : Task) (x : Exchange) → Acted room task (Err Memory) x x
-wanting room task x = let c = some_allowed x.held task in record { choice = c.0; by_policy = c.1; comes = refl }
+pub wanting : (task : Task) (x : Exchange) → Acted task (Err Memory) x x
+wanting task x = let c = some_allowed x.held task in record { choice = c.0; by_policy = c.1; comes = refl }
 
 -- ## What was done on outputs of full size
 
 -- on what an exchange lends: its table may come as another list of the same circuits
-lent_is : (room : ℕ) (task : Task) (x : Exchange) (T : List Circuit) (r : Result (ℕ × ℕ) Refusal) (after : Lent) → T ≡ x.table
-    → Performed x.config room task r (lent T x.held (replicate 96 0) (replicate 320 0)) after → Performed x.config room task r (lends x) after
-lent_is room task x T r after e p = subst (λ (z : List Circuit). Performed x.config room task r (lent z x.held (replicate 96 0) (replicate 320 0)) after) e p
+lent_is : (room : ℕ) (task : Task) (x : Exchange) (T : List Circuit) (r : Result (ℕ × ℕ) Refusal) (after : Lent) → T ≡ x.table → length x.held ≡ room
+    → Performed x.config room task r (lent T x.held (replicate 96 0) (replicate 320 0)) after → Performed x.config (length x.held) task r (lends x) after
+lent_is room task x T r after e s p =
+    subst (λ k. Performed x.config k task r (lends x) after) (sym s)
+    (subst (λ (z : List Circuit). Performed x.config room task r (lent z x.held (replicate 96 0) (replicate 320 0)) after) e p)
 
-pub fills : (room : ℕ) (task : Task) (x : Exchange) (T : List Circuit) (r : Result (ℕ × ℕ) Refusal) (after : Lent) (n : ℕ × ℕ) → T ≡ x.table
+pub fills : (room : ℕ) (task : Task) (x : Exchange) (T : List Circuit) (r : Result (ℕ × ℕ) Refusal) (after : Lent) (n : ℕ × ℕ) → T ≡ x.table → length x.held ≡ room
     → Performed x.config room task r (lent T x.held (replicate 96 0) (replicate 320 0)) after → r ≡ Ok n
     → sum (sizes_in (take n.0 after.words)) ≡ length (take n.1 after.octets)
-fills room task x T r after n e p q =
-    let o = (lent_is room task x T r after e p) in
-    made_up (rules_of x.config room o.choice task) x after n r o.outcome q
+fills room task x T r after n e s p q =
+    let o = (lent_is room task x T r after e s p) in
+    made_up (rules_of x.config (length x.held) o.choice task) x after n r o.outcome q
 
-pub same_size : (room : ℕ) (task : Task) (x : Exchange) (T : List Circuit) (r : Result (ℕ × ℕ) Refusal) (after : Lent) → T ≡ x.table
+pub same_size : (room : ℕ) (task : Task) (x : Exchange) (T : List Circuit) (r : Result (ℕ × ℕ) Refusal) (after : Lent) → T ≡ x.table → length x.held ≡ room
     → Performed x.config room task r (lent T x.held (replicate 96 0) (replicate 320 0)) after → length after.table ≡ length x.table
-same_size room task x T r after e p =
-    let o = (lent_is room task x T r after e p) in
-    size_kept (rules_of x.config room o.choice task) x after r o.outcome
+same_size room task x T r after e s p =
+    let o = (lent_is room task x T r after e s p) in
+    size_kept (rules_of x.config (length x.held) o.choice task) x after r o.outcome
 
-pub accepts : (room : ℕ) (task : Task) (x y : Exchange) (T : List Circuit) (r : Result (ℕ × ℕ) Refusal) (after : Lent) (n : ℕ × ℕ) → T ≡ x.table
+pub accepts : (room : ℕ) (task : Task) (x y : Exchange) (T : List Circuit) (r : Result (ℕ × ℕ) Refusal) (after : Lent) (n : ℕ × ℕ) → T ≡ x.table → length x.held ≡ room
     → Performed x.config room task r (lent T x.held (replicate 96 0) (replicate 320 0)) after → r ≡ Ok n
     → Left x after (take n.0 after.words) (messages (sizes_in (take n.0 after.words)) (take n.1 after.octets)) y
-    → Acted room task (Ok n.0) x y
-accepts room task x y T r after n e p q l =
-    let o = (lent_is room task x T r after e p) in
-    record { choice = o.choice; by_policy = o.by_policy; comes = moved (rules_of x.config room o.choice task) x after n r y o.outcome q l }
+    → Acted task (Ok n.0) x y
+accepts room task x y T r after n e s p q l =
+    let o = (lent_is room task x T r after e s p) in
+    record { choice = o.choice; by_policy = o.by_policy; comes = moved (rules_of x.config (length x.held) o.choice task) x after n r y o.outcome q l }
 
-pub refuses : (room : ℕ) (task : Task) (x y : Exchange) (T : List Circuit) (r : Result (ℕ × ℕ) Refusal) (after : Lent) (f : Refusal) → T ≡ x.table
+pub refuses : (room : ℕ) (task : Task) (x y : Exchange) (T : List Circuit) (r : Result (ℕ × ℕ) Refusal) (after : Lent) (f : Refusal) → T ≡ x.table → length x.held ≡ room
     → Performed x.config room task r (lent T x.held (replicate 96 0) (replicate 320 0)) after → r ≡ Err f
     → y.config ≡ x.config → y.table ≡ after.table → y.held ≡ after.held → y.told ≡ x.told → y.line ≡ x.line
-    → Acted room task (Err (Refused f)) x y
-refuses room task x y T r after f e p q c t h w l =
-    let o = (lent_is room task x T r after e p) in
-    let z = refused (rules_of x.config room o.choice task) x after f r o.outcome q in
+    → Acted task (Err (Refused f)) x y
+refuses room task x y T r after f e s p q c t h w l =
+    let o = (lent_is room task x T r after e s p) in
+    let z = refused (rules_of x.config (length x.held) o.choice task) x after f r o.outcome q in
     record {
       choice = o.choice;
       by_policy = o.by_policy;

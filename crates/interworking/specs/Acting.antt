@@ -1,5 +1,5 @@
 -- What the operations of a trunk make of an exchange.
-use Rattle.std.specs.Prelude.{ℕ, Bool, List, Option, Result}
+use Rattle.std.specs.Prelude.{ℕ, Bool, List, length, Option, Result}
 use Rattle.policy.specs.declared.interface.Place.{Place}
 use Rattle.refusal.specs.declared.reasons.Refusal.{Refusal}
 use Rattle.supervision.specs.Answering.{answer, ByPolicy}
@@ -27,10 +27,10 @@ abbrev pub Allowed : List Bool → Option Place → Task → Type 0
 Allowed held choice (Order o) = ByPolicy held (meant choice o)
 Allowed held choice task = Unit {0}
 
-pub record Acted (room : ℕ) (task : Task) (r : Result ℕ Fault) (x after : Exchange) : Type 0 where
+pub record Acted (task : Task) (r : Result ℕ Fault) (x after : Exchange) : Type 0 where
   pub choice : Option Place
   pub by_policy : Allowed x.held choice task
-  pub comes : Comes (rules_of x.config room choice task) r x after
+  pub comes : Comes (rules_of x.config (length x.held) choice task) r x after
 
 -- the same of what is lent
 pub record Performed (t : Config) (room : ℕ) (task : Task) (r : Result (ℕ × ℕ) Refusal) (before after : Lent) : Type 0 where

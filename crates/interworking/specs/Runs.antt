@@ -1,9 +1,8 @@
 -- Two exchanges that some run led to, and what is promised of them.
-use Rattle.std.specs.Prelude.{◌≡◌, ℕ, ◌*◌, Bool, not, List, [], map, length, Ok, Err, Result}
+use Rattle.std.specs.Prelude.{◌≡◌, ℕ, Bool, not, List, map}
 use Rattle.status.specs.declared.circuit.Cic.{Cic}
 use Rattle.told.specs.Words.{number_of}
 use Rattle.told.specs.declared.kinds.Word.{Word}
-use Rattle.supervision.specs.Opening.{opening, open_table, open_set}
 use Rattle.agreement.specs.Agreeing.{Promised}
 use Rattle.agreement.specs.Reading.{read}
 use Rattle.agreement.specs.Runs.{State, Reaches, trunk}
@@ -27,11 +26,3 @@ pub record Reached (a b : Exchange) : Type 0 where
 -- so all that is promised of runs holds, of the words that the numbers told say
 abbrev pub Agrees : Exchange → Exchange → Type 0
 Agrees a b = Promised a.config b.config (state a (read a.told)) (state b (read b.told))
-
--- newly opened, with a policy that takes so many places
-pub record Fresh (room : ℕ) (first : Cic) (ws : List ℕ) (higher : Bool) (x : Exchange) : Type 0 where
-  pub accepted : opening room first ws higher (length ws * 32) ≡ Ok x.config
-  pub table : x.table ≡ open_table ws
-  pub held : x.held ≡ open_set room (open_table ws)
-  pub told : x.told ≡ []
-  pub line : x.line ≡ []

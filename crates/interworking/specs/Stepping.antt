@@ -35,19 +35,19 @@ Comes rules (Err Empty) x after = ⊥
 Comes rules (Err Memory) x after = after ≡ x
 
 -- an order of the host, a seizure with a choice that the policy's set allows
-pub record Ordered (room : ℕ) (o : Order) (r : Result ℕ Fault) (x after : Exchange) : Type 0 where
+pub record Ordered (o : Order) (r : Result ℕ Fault) (x after : Exchange) : Type 0 where
   pub choice : Option Place
   pub by_policy : ByPolicy x.held (meant choice o)
-  pub comes : Comes (answer x.config room (meant choice o)) r x after
+  pub comes : Comes (answer x.config (length x.held) (meant choice o)) r x after
 
 -- the front message of the line into an exchange: it is taken off only if it is accepted
-abbrev pub Received : ℕ → Result ℕ Fault → Exchange → List (List ℕ) → Exchange → List (List ℕ) → Type 0
-Received room (Ok n) x into after left = (front : List ℕ) × (into ≡ front ∷ left) × Moved (receiving x.config room front) n x after
-Received room (Err (Refused e)) x into after left =
-    ((front : List ℕ) × (rest : List (List ℕ)) × (into ≡ front ∷ rest) × (receiving x.config room front (lends x) ≡ Err e))
+abbrev pub Received : Result ℕ Fault → Exchange → List (List ℕ) → Exchange → List (List ℕ) → Type 0
+Received (Ok n) x into after left = (front : List ℕ) × (into ≡ front ∷ left) × Moved (receiving x.config (length x.held) front) n x after
+Received (Err (Refused e)) x into after left =
+    ((front : List ℕ) × (rest : List (List ℕ)) × (into ≡ front ∷ rest) × (receiving x.config (length x.held) front (lends x) ≡ Err e))
     × (after ≡ x) × (left ≡ into)
-Received room (Err Empty) x into after left = (into ≡ []) × (after ≡ x) × (left ≡ into)
-Received room (Err Memory) x into after left = (after ≡ x) × (left ≡ into)
+Received (Err Empty) x into after left = (into ≡ []) × (after ≡ x) × (left ≡ into)
+Received (Err Memory) x into after left = (after ≡ x) × (left ≡ into)
 
 -- a host sends ACM, CON, ANM or CPG, with a body, for an equipped circuit
 abbrev pub calling : Config → Cic → CallKind → List ℕ → List Circuit → Result (Unit {0}) Refusal
@@ -64,19 +64,19 @@ Called cic kind body (Err Empty) x after = ⊥
 Called cic kind body (Err Memory) x after = after ≡ x
 
 -- a step of one exchange, and the other one: of that only the line may change, by the message that is taken off
-abbrev pub Steps : ℕ → Step → Result ℕ Fault → Exchange → Exchange → Exchange → Exchange → Type 0
-Steps room (Ordering o) r x other after other' = Ordered room o r x after × (other' ≡ other)
-Steps room (Expire timer at kind) r x other after other' = Comes (expiring x.config room timer at kind) r x after × (other' ≡ other)
-Steps room Receive r x other after other' = Received room r x other.line after other'.line × (other' ≡ with_line other'.line other)
-Steps room (Call cic kind body) r x other after other' = Called cic kind body.now r x after × (other' ≡ other)
+abbrev pub Steps : Step → Result ℕ Fault → Exchange → Exchange → Exchange → Exchange → Type 0
+Steps (Ordering o) r x other after other' = Ordered o r x after × (other' ≡ other)
+Steps (Expire timer at kind) r x other after other' = Comes (expiring x.config (length x.held) timer at kind) r x after × (other' ≡ other)
+Steps Receive r x other after other' = Received r x other.line after other'.line × (other' ≡ with_line other'.line other)
+Steps (Call cic kind body) r x other after other' = Called cic kind body.now r x after × (other' ≡ other)
 
--- a step of either, with the places that the policy of each takes
-abbrev pub Stepped : ℕ → ℕ → Side → Step → Result ℕ Fault → Exchange → Exchange → Exchange → Exchange → Type 0
-Stepped room room' Near step r a b a' b' = Steps room step r a b a' b'
-Stepped room room' Far step r a b a' b' = Steps room' step r b a b' a'
+-- a step of either
+abbrev pub Stepped : Side → Step → Result ℕ Fault → Exchange → Exchange → Exchange → Exchange → Type 0
+Stepped Near step r a b a' b' = Steps step r a b a' b'
+Stepped Far step r a b a' b' = Steps step r b a b' a'
 
 -- steps in a row, each of them accepted or not
-abbrev pub Ran : ℕ → ℕ → List (Side × Step) → Exchange → Exchange → Exchange → Exchange → Type 0
-Ran room room' [] a b a' b' = (a' ≡ a) × (b' ≡ b)
-Ran room room' (s ∷ ss) a b a' b' =
-    (r : Result ℕ Fault) × (x : Exchange) × (y : Exchange) × Stepped room room' s.0 s.1 r a b x y × Ran room room' ss x y a' b'
+abbrev pub Ran : List (Side × Step) → Exchange → Exchange → Exchange → Exchange → Type 0
+Ran [] a b a' b' = (a' ≡ a) × (b' ≡ b)
+Ran (s ∷ ss) a b a' b' =
+    (r : Result ℕ Fault) × (x : Exchange) × (y : Exchange) × Stepped s.0 s.1 r a b x y × Ran ss x y a' b'

@@ -40,7 +40,7 @@ fn perform<P: Policy>(
 impl<P: Policy> End<P> {
     // Does it; how many words are told.
     pub(crate) fn act(&mut self, task: Task<'_>) -> Result<usize, Fault>
-        ensures { Acted P.Policy.PLACES task.entry result self.old self.new }
+        ensures { Acted task.entry result self.old self.new }
     {
         self.told.reserve(WORDS)?;
         self.line.reserve(WORDS, OCTETS)?;

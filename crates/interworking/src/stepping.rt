@@ -59,7 +59,7 @@ fn judge(
 impl<P: Policy> End<P> {
     // Takes the front message of the other's line, and takes it off if it is accepted.
     fn receive<Q: Policy>(&mut self, other: &mut End<Q>) -> Result<usize, Fault>
-        ensures received { Received P.Policy.PLACES result self.old other.old.line self.new
+        ensures received { Received result self.old other.old.line self.new
             other.new.line }
         ensures other { other.new ≡ with_line other.new.line other.old }
     {
@@ -86,7 +86,7 @@ impl<P: Policy> End<P> {
         step: Step<'_>,
         other: &mut End<Q>,
     ) -> Result<usize, Fault>
-        ensures { Steps P.Policy.PLACES step.entry result self.old other.old self.new other.new }
+        ensures { Steps step.entry result self.old other.old self.new other.new }
     {
         match step {
             Step::Order(order) => self.act(Task::Order(order)),

@@ -1,10 +1,9 @@
-use Rattle.std.proofs.Common.{◌≡◌, ℕ, ◌+◌, ◌-◌, List, [], ◌∷◌, ◌++◌, replicate, take, drop, length, sym, refl, ap, ◌∙◌, arith}
+use Rattle.std.proofs.Common.{◌≡◌, ◌+◌, ◌-◌, ◌++◌, replicate, take, length, sym, ap, ◌∙◌, arith}
 use Rattle.std.proofs.lemmas.List.{with_items_is, length-append}
 use Rattle.std.specs.Vec.{vec_len}
 use borrow.Rule.Slice.PartMut.{post_of}
 use Rattle.message.specs.Encode.{encode, refusal_of}
 use Rattle.message.specs.Msg.{call}
-use Rattle.interworking.specs.Lines.{messages}
 use Rattle.interworking.proofs.Cuts.{written_behind, messages_push}
 use Rattle.interworking.proofs.line.Line.send.Goals as goal
 
