@@ -1,11 +1,11 @@
 -- Octets in a row, cut by the sizes of their messages.
-use Rattle.std.proofs.Common.{◌≡◌, ℕ, suc, ◌+◌, ◌-◌, ◌≤◌, List, [], ◌∷◌, ◌++◌, length, take, drop, Bool, true, false, cond, ltb, Some, None, Ok, Err, Option, Result, sym, refl, ap, ◌∙◌, subst, take_at, drop_at, arith}
+use Rattle.std.proofs.Common.{◌≡◌, ℕ, zero, suc, ◌+◌, ◌-◌, ◌<◌, ◌≤◌, get_or, List, [], ◌∷◌, ◌++◌, length, take, drop, Bool, true, false, cond, ltb, Some, None, Ok, Err, Option, Result, sym, refl, ap, ◌∙◌, subst, take_at, drop_at, arith}
 use borrow.Rule.Slice.PartMut.{post_of}
 use Rattle.message.specs.Encode.{leaves, written, unless_refused}
 use Rattle.message.specs.declared.fault.MessageFault.{MessageFault}
 use Rattle.message.specs.declared.fault.MessageFault.TheVariants.{NoRoom}
-use Rattle.std.proofs.lemmas.List.{append-nil, drop_all, take_all, take-append-le, drop-append-le, length-drop, length-take-le}
-use Rattle.std.proofs.lemmas.List.Sums.{sum_by-cons}
+use Rattle.std.proofs.lemmas.List.{append-nil, drop-drop, take_more, drop_all, take_all, take-append-le, drop-append-le, length-drop, length-take-le}
+use Rattle.std.proofs.lemmas.List.Sums.{sum_by-cons, sum_by_push, sum_by-take-le}
 use Rattle.std.specs.List.{sum}
 use Rattle.interworking.specs.Lines.{messages}
 
@@ -57,3 +57,18 @@ written_behind old zeros now out enc start size r n f room' e s l k o q v =
 pub messages_push : (ns o enc : List ℕ) (n : ℕ) → sum ns ≡ length o → length enc ≡ n → messages (ns ++ n ∷ []) (o ++ enc) ≡ messages ns o ++ enc ∷ []
 messages_push ns o enc n e l =
     messages_append ns (n ∷ []) o enc e ∙ ap (λ z. messages ns o ++ z ∷ []) (take_all n enc (omega (arith, l)))
+
+-- one message among them, and that it lies within the octets
+pub messages_at : (ns o : List ℕ) (n : ℕ) → n < length ns → get_or (messages ns o) n [] ≡ take (get_or ns n 0) (drop (sum (take n ns)) o)
+messages_at [] o n l = absurd (omega (arith, l))
+messages_at (k ∷ ns) o zero l = refl
+messages_at (k ∷ ns) o (suc n) l =
+    let all : sum (k ∷ take n ns) ≡ k + sum (take n ns) = sum_by-cons (λ x. x) k (take n ns) in
+    messages_at ns (drop k o) n (omega (arith, l))
+    ∙ ap (take (get_or ns n 0)) (drop-drop (sum (take n ns)) k o ∙ ap (λ z. drop z o) (sym all))
+
+pub within : (ns o : List ℕ) (n : ℕ) → sum ns ≡ length o → n < length ns → sum (take n ns) + get_or ns n 0 ≤ length o
+within ns o n e l =
+    let a : sum (take (n + 1) ns) ≡ sum (take n ns) + get_or ns n 0 = ap sum (take_more ns n 0 l) ∙ sum_by_push (λ x. x) (take n ns) (get_or ns n 0) in
+    let b : sum (take (n + 1) ns) ≤ sum ns = sum_by-take-le (λ x. x) ns (n + 1) in
+    omega (arith, a, b, e)

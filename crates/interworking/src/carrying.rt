@@ -1,5 +1,5 @@
 // What a line does: messages are put on at the end, and taken off at the front.
-ghost use Rattle.std.specs.Prelude.{◌≡◌, ℕ, ◌+◌, ◌<◌, ◌≤◌, true, [], ◌∷◌, ◌++◌, drop, length, vec_len, vec_capacity, OnOk, MatchOption, is_ok, if◌then◌else◌, ◌==◌};
+ghost use Rattle.std.specs.Prelude.{◌≡◌, ℕ, ◌+◌, ◌<◌, ◌≤◌, true, [], ◌∷◌, ◌++◌, drop, length, vec_len, vec_capacity, slice_index_or, OnOk, MatchOption, is_ok, if◌then◌else◌, ◌==◌};
 ghost use Rattle.std.specs.List.{sum};
 ghost use Rattle.message.specs.Encode.{encode};
 ghost use Rattle.message.specs.Msg.{call};
@@ -70,6 +70,21 @@ impl Line {
         Some(&self.octets[..size])
     }
 
+    // The n-th message from the front on.
+    #[tactic(auto, using(crate::proofs::Cuts::length_messages))]
+    pub fn get(&self, n: usize) -> Option<&[u8]>
+        ensures { MatchOption result (length (carried self.now) ≤ n)
+            (λ message. (n < length (carried self.now))
+            × (message.now ≡ slice_index_or (carried self.now) n [])) }
+    {
+        let size = *self.sizes.get(n)?;
+        let mut start = 0;
+        for before in &self.sizes[..n] {
+            start += *before;
+        }
+        Some(&self.octets[start..start + size])
+    }
+
     // Makes room for messages.
     pub(crate) fn reserve(&mut self, messages: usize, octets: usize) -> Result<(), AllocError>
         ensures same { carried self.new ≡ carried self.old }
@@ -82,8 +97,8 @@ impl Line {
         self.octets.reserve(octets)
     }
 
-    #[tactic(auto, using(crate::proofs::Cuts::messages_append))]
     // Puts messages on it whose octets were written in a row, as the words say that were told with them.
+    #[tactic(auto, using(crate::proofs::Cuts::messages_append))]
     pub(crate) fn post(&mut self, words: &[u32], octets: &[u8])
         requires messages { vec_len self.old.sizes + length words.now
             ≤ vec_capacity self.old.sizes }
