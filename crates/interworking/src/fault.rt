@@ -4,6 +4,8 @@ ghost use Rattle.interworking.specs.declared.fault.Fault.TheVariants.{Memory};
 
 use refusal::Refusal;
 use std::alloc::AllocError;
+use std::error::Error;
+use std::fmt;
 
 #[derive(Clone, Copy, PartialEq, Eq, Debug)]
 pub enum Fault {
@@ -14,6 +16,18 @@ pub enum Fault {
     // memory is wanting
     Memory,
 }
+
+impl fmt::Display for Fault {
+    fn fmt<W: fmt::Write>(&self, f: &mut fmt::Formatter<W>) -> fmt::Result {
+        match self {
+            Fault::Refused(refusal) => write!(f, "{refusal}"),
+            Fault::Empty => f.write_str("no message on the line"),
+            Fault::Memory => f.write_str("no memory"),
+        }
+    }
+}
+
+impl Error for Fault {}
 
 impl From<AllocError> for Fault {
     ghost from_gives = { λ _ fault. fault ≡ Memory };
