@@ -1,19 +1,19 @@
 // A policy of either method. An enum and no `dyn`, since a policy states its number of places as a constant.
-ghost use Rattle.console.specs.Selections.{held_by, held_by-length, obeys_by, picks_by, made_by};
+ghost use Rattle.terminal.specs.Selections.{held_by, held_by-length, obeys_by, picks_by, made_by};
 ghost use Rattle.std.specs.Prelude.{◌≡◌, false, replicate};
 
-use crate::order::Method;
+use crate::methods::Method;
 use policy::{Place, Policy, ReleaseOrder, Sequential};
 
 #[derive(Clone, Copy)]
-pub(crate) enum Selection {
+pub enum Selection {
     OneEnd(Sequential),
     ReleaseOrder(ReleaseOrder),
 }
 
 impl Selection {
     // A policy that holds nothing. With the higher point code the even places are controlled.
-    pub(crate) fn new(method: Method, higher: bool) -> Selection
+    pub fn new(method: Method, higher: bool) -> Selection
         ensures made { made_by method higher result }
         ensures none { held_by result ≡ replicate 512 false }
     {

@@ -6,10 +6,10 @@ use Rattle.policy.specs.Orders.{marks}
 use Rattle.policy.specs.Turns.{Reorders, TakesPreferred}
 use Rattle.policy.specs.declared.interface.Place.{Place}
 use Rattle.policy.specs.declared.interface.Word.{Word}
-use Rattle.console.specs.declared.order.Method.{Method}
-use Rattle.console.specs.declared.order.Method.TheVariants as method
-use Rattle.console.specs.declared.selection.Selection.{Selection}
-use Rattle.console.specs.declared.selection.Selection.TheVariants.{OneEnd, ReleaseOrder}
+use Rattle.terminal.specs.declared.methods.Method.{Method}
+use Rattle.terminal.specs.declared.methods.Method.TheVariants as method
+use Rattle.terminal.specs.declared.selection.Selection.{Selection}
+use Rattle.terminal.specs.declared.selection.Selection.TheVariants.{OneEnd, ReleaseOrder}
 
 abbrev pub held_by : Selection → List Bool
 held_by (OneEnd p) = p.marks
