@@ -31,9 +31,7 @@ fn perform<P: Policy>(
         Task::Expire { timer, at, kind } => {
             incoming::expire(trunk, timer, at, kind, table, policy, words, octets)
         }
-        Task::Receive(received) => {
-            incoming::receive(trunk, received, table, policy, words, octets)
-        }
+        Task::Receive(received) => trunk.receive(received, table, policy, words, octets),
     }
 }
 

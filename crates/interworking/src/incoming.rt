@@ -2,28 +2,11 @@
 ghost use Rattle.supervision.specs.Expiring.{expiring};
 ghost use Rattle.supervision.specs.Laws.{Outcome};
 ghost use Rattle.supervision.specs.Lending.{lent};
-ghost use Rattle.supervision.specs.Receiving.{receiving};
 
 use circuit::Circuit;
 use policy::Policy;
 use refusal::Refusal;
 use supervision::Trunk;
-
-pub(crate) fn receive<P: Policy>(
-    trunk: Trunk,
-    received: &[u8],
-    table: &mut [Circuit],
-    policy: &mut P,
-    words: &mut [u32],
-    octets: &mut [u8],
-) -> Result<(usize, usize), Refusal>
-    ensures outcome { Outcome trunk.config (receiving trunk.config P.Policy.PLACES received.now)
-        result
-        (lent table.old (P.Policy.held policy.old) words.old octets.old)
-        (lent table.new (P.Policy.held policy.new) words.new octets.new) }
-{
-    Err(Refusal::Argument)
-}
 
 pub(crate) fn expire<P: Policy>(
     trunk: Trunk,

@@ -382,7 +382,7 @@ impl Trunk {
     }
 
     // Receives the octets of a message.
-    pub(crate) fn receive<P: Policy>(
+    pub fn receive<P: Policy>(
         self,
         received: &[u8],
         table: &mut [Circuit],
