@@ -45,7 +45,7 @@ receives t x into left n after ws e h = record {
   move = h.2.move;
   stood = h.1;
   taken = subst (λ (c : Config). receiving c (length x.held) h.0 (lends x) ≡ Ok h.2.move) e h.2.answered;
-  gone_on = rw (h.2.moved, ← e) refl;
+  moved = rw (h.2.moved, ← e) refl;
 }
 
 along : (a b : Exchange) (r : Reached a b) (n : ℕ) (x y : Exchange) → Receives a b n x y → Along a b r n x y
