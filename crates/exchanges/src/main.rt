@@ -2,8 +2,13 @@
 // the lines.
 #![tactic(auto)]
 
+mod chance;
+mod looking;
 mod playing;
 mod reading;
+#[cfg(test)]
+mod tests;
+mod watching;
 mod wording;
 
 ghost use Rattle.std.specs.Prelude.{◌≡◌, ℕ, ◌<◌, length, MatchBool, ◌==◌, ◌≢◌, slice_index};

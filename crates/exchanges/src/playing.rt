@@ -1,5 +1,6 @@
 // The two exchanges, and what they answer.
 use crate::reading::{Command, Opening};
+use crate::watching::{Tally, Watch};
 use interworking::{Bench, Fault, Side, Step};
 use status::Cic;
 use std::alloc::Global;
@@ -14,6 +15,7 @@ pub enum Answer {
     // by how many receives
     Settled(u128),
     Shown(Cic),
+    Ran(Tally),
     Failed(Fault),
     NotUnderstood,
 }
@@ -31,6 +33,7 @@ impl Exchanges {
             Command::Step(side, deed) => self.step(*side, deed.as_step()),
             Command::Settle => self.settle(),
             Command::Show(cic) => Answer::Shown(*cic),
+            Command::Run { seed, steps } => self.run(heap, *seed, *steps),
         }
     }
 
@@ -65,6 +68,16 @@ impl Exchanges {
         match bench.settle() {
             Ok(count) => Answer::Settled(count),
             Err(fault) => Answer::Failed(fault),
+        }
+    }
+
+    fn run(&mut self, heap: Global, seed: u64, steps: u32) -> Answer {
+        let Some(bench) = &mut self.bench else {
+            return Answer::NotUnderstood;
+        };
+        match Watch::new(heap, &*bench) {
+            Ok(mut watch) => Answer::Ran(watch.run(bench, seed, steps)),
+            Err(_) => Answer::Failed(Fault::Memory),
         }
     }
 }

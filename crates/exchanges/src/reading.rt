@@ -3,7 +3,10 @@ use interworking::{Side, Step};
 use message::CallKind;
 use status::Cic;
 use std::alloc::{AllocError, Global};
-use terminal::{Expiry, Method, Operation, decimal_cic, read_equipment, read_expiry, read_method, read_octets, read_operation, words_of};
+use terminal::{
+    Expiry, Method, Operation, decimal, decimal_cic, read_equipment, read_expiry, read_method,
+    read_octets, read_operation, words_of,
+};
 
 // Two exchanges to open.
 #[derive(Drop)]
@@ -54,6 +57,8 @@ pub enum Command {
     Settle,
     // both ends of a circuit
     Show(Cic),
+    // steps by chance, from a seed
+    Run { seed: u64, steps: u32 },
 }
 
 // The command of a line, or `None` where there is no such command.
@@ -62,17 +67,31 @@ pub fn read_command(heap: Global, line: &[u8]) -> Result<Option<Command>, AllocE
     match words.as_slice() {
         [b"open", first, side, near, far, equipment @ ..] => {
             let equipment = read_equipment(heap, equipment)?;
-            Ok(equipment.and_then(|equipment| opening(first, side, near, far, equipment)))
+            Ok(equipment.and_then(|equipment| make_opening(first, side, near, far, equipment)))
         }
-        [b"near", deed @ ..] => Ok(read_deed(heap, deed)?.map(|deed| Command::Step(Side::Near, deed))),
-        [b"far", deed @ ..] => Ok(read_deed(heap, deed)?.map(|deed| Command::Step(Side::Far, deed))),
+        [b"near", deed @ ..] => Ok(read_deed(heap, deed)?.map(|deed| Command::Step(
+            Side::Near,
+            deed,
+        ))),
+        [b"far", deed @ ..] => Ok(read_deed(heap, deed)?.map(|deed| Command::Step(
+            Side::Far,
+            deed,
+        ))),
         [b"settle"] => Ok(Some(Command::Settle)),
+        [b"run", seed, steps] => Ok(read_run(seed, steps)),
         [b"show", cic] => Ok(decimal_cic(cic).map(Command::Show)),
         _ => Ok(None),
     }
 }
 
-fn opening(
+fn read_run(seed: &[u8], steps: &[u8]) -> Option<Command> {
+    Some(Command::Run {
+        seed: decimal(seed)?,
+        steps: u32::try_from(decimal(steps)?).ok()?,
+    })
+}
+
+fn make_opening(
     first: &[u8],
     side: &[u8],
     near: &[u8],

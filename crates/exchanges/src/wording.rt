@@ -1,5 +1,6 @@
 // What a command is answered, in words.
 use crate::playing::{Answer, Exchanges};
+use crate::watching::Tally;
 use explain::Explanation;
 use interworking::{Bench, End, Line, Side};
 use policy::Policy;
@@ -34,8 +35,14 @@ impl fmt::Display for Report<'_> {
             }
             Answer::Settled(count) => writeln!(f, "both lines are empty after {count} messages"),
             Answer::Shown(cic) => {
-                write!(f, "near {}far {}", Shown(bench.near(), cic), Shown(bench.far(), cic))
+                write!(
+                    f,
+                    "near {}far {}",
+                    Shown(bench.near(), cic),
+                    Shown(bench.far(), cic)
+                )
             }
+            Answer::Ran(tally) => write!(f, "{}", Stretch(tally)),
             Answer::Failed(fault) => writeln!(f, "{fault}"),
             Answer::NotUnderstood => writeln!(f, "not understood"),
         }
@@ -54,10 +61,40 @@ impl fmt::Display for Words<'_> {
             let number = *word;
             match Word::try_from(number) {
                 Ok(Word::Send(_, _)) => {}
-                _ => writeln!(f, "  {}", Told { number, octets: &[] })?,
+                _ => writeln!(
+                    f,
+                    "  {}",
+                    Told {
+                        number,
+                        octets: &[]
+                    }
+                )?,
             }
         }
         Ok(())
+    }
+}
+
+// What a stretch of steps came to.
+#[derive(Clone, Copy)]
+struct Stretch(Tally);
+
+impl fmt::Display for Stretch {
+    fn fmt<W: fmt::Write>(&self, f: &mut fmt::Formatter<W>) -> fmt::Result {
+        let Tally {
+            accepted,
+            refused,
+            quiet,
+            broken,
+        } = self.0;
+        writeln!(
+            f,
+            "accepted {accepted}, refused {refused}, both lines empty {quiet} times"
+        )?;
+        match broken {
+            Some(broken) => writeln!(f, "not kept: {broken}"),
+            None => writeln!(f, "all that is promised was kept"),
+        }
     }
 }
 
