@@ -2,14 +2,14 @@
 ghost use Rattle.std.specs.Prelude.{IfOk};
 ghost use Rattle.console.specs.Opened.{Opened};
 
-use crate::order::{Opening, Operation, Order, Slots};
-use crate::selection::Selection;
+use crate::order::{Opening, Order};
 use crate::wording::Answer;
 use circuit::Circuit;
 use refusal::Refusal;
 use status::Cic;
 use std::alloc::{AllocError, Global};
 use supervision::{MOST_SYSTEMS, OCTETS, SLOTS, Trunk, WORDS};
+use terminal::{Operation, Selection};
 
 // An open trunk with its policy.
 #[derive(Clone, Copy)]
@@ -53,24 +53,7 @@ impl OpenTrunk {
     ) -> Result<(usize, usize), Refusal> {
         let trunk = self.trunk;
         let policy = &mut self.selection;
-        match operation {
-            Operation::Seize(body) => trunk.seize(body.as_slice(), table, policy, words, octets),
-            Operation::Release(cic, location, value) => {
-                trunk.release(*cic, *location, *value, table, policy, words, octets)
-            }
-            Operation::Block(cic) => trunk.block(*cic, table, policy, words, octets),
-            Operation::Unblock(cic) => trunk.unblock(*cic, table, policy, words, octets),
-            Operation::Reset(cic) => trunk.reset(*cic, table, policy, words, octets),
-            Operation::GroupBlock(Slots { kind, system, mask }) => {
-                trunk.group_block(*kind, *system, *mask, table, policy, words, octets)
-            }
-            Operation::GroupUnblock(Slots { kind, system, mask }) => {
-                trunk.group_unblock(*kind, *system, *mask, table, policy, words, octets)
-            }
-            Operation::GroupReset(system) => {
-                trunk.group_reset(*system, table, policy, words, octets)
-            }
-        }
+        trunk.order(operation.as_order(), table, policy, words, octets)
     }
 }
 

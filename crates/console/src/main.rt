@@ -2,9 +2,7 @@
 #![tactic(auto)]
 
 mod console;
-mod numerals;
 mod order;
-mod selection;
 mod wording;
 
 ghost use Rattle.std.specs.Prelude.{◌≡◌, ℕ, ◌<◌, length, MatchBool, ◌==◌, ◌≢◌, slice_index};

@@ -1,5 +1,7 @@
+pub mod Accepted
 pub mod Alike
 pub mod Allowing
+pub mod Asking
 pub mod Bits
 pub mod Choosing
 pub mod Concerned

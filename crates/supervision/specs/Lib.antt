@@ -6,6 +6,7 @@ pub mod Laws
 pub mod Lending
 pub mod Moves
 pub mod Opening
+pub mod Ordering
 pub mod Orders
 pub mod Receiving
 pub mod Replies

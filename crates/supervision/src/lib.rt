@@ -8,6 +8,7 @@ mod expiring;
 mod group;
 mod judging;
 mod opening;
+mod ordering;
 mod receiving;
 mod seizing;
 mod sending;
@@ -16,4 +17,5 @@ mod slots;
 mod trunk;
 
 pub use judging::{OCTETS, WORDS};
+pub use ordering::Order;
 pub use trunk::{Config, MOST_SYSTEMS, SLOTS, Trunk};

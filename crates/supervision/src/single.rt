@@ -19,7 +19,7 @@ use status::Cic;
 
 impl Trunk {
     // Does an order for one circuit and sends its message.
-    fn order<P: Policy>(
+    fn order_one<P: Policy>(
         self,
         cic: Cic,
         rule: Rule,
@@ -63,7 +63,7 @@ impl Trunk {
     {
         self.admit(table, policy, words, octets)?;
         let message = Message::Single(cic, kind);
-        self.order(cic, rule, message, table, policy, words, octets)
+        self.order_one(cic, rule, message, table, policy, words, octets)
     }
 
     // Releases a call, with the location and the value of its cause.
@@ -88,7 +88,7 @@ impl Trunk {
         let pair = <[u8; 2]>::from(cause);
         let message = Message::Release(cic, &pair);
         let rule = Rule::Release(cause);
-        self.order(cic, rule, message, table, policy, words, octets)
+        self.order_one(cic, rule, message, table, policy, words, octets)
     }
 
     // Asks the far exchange to keep calls off a circuit, for maintenance.

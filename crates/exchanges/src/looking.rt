@@ -1,0 +1,131 @@
+// What is promised of two exchanges, looked at on their tables and on the words that they told.
+use circuit::{Call, Circuit, LocalBlock};
+use status::Cic;
+use std::alloc::{AllocError, Global};
+use std::fmt;
+use told::Word;
+
+// What was seen not to hold.
+#[derive(Clone, Copy, PartialEq, Eq, Debug)]
+pub enum Broken {
+    // a local block stands at one end, and the other end knows nothing of it, or the other way round
+    Blocks(Cic),
+    // begun and ended words do not take turns, or the circuit is engaged where the last of them is no begun
+    Turns(Cic),
+    // a seizure was refused where a circuit was open, or accepted where none was
+    Seizure,
+    // a message on a line was refused
+    Message,
+    // something is waited for where both lines are empty
+    Rest(Cic),
+}
+
+impl fmt::Display for Broken {
+    fn fmt<W: fmt::Write>(&self, f: &mut fmt::Formatter<W>) -> fmt::Result {
+        match self {
+            Broken::Blocks(cic) => write!(
+                f,
+                "the ends do not agree on the blocks of circuit {cic}"
+            ),
+            Broken::Turns(cic) => write!(f, "begun and ended do not take turns on circuit {cic}"),
+            Broken::Seizure => write!(
+                f,
+                "a seizure is accepted without an open circuit, or refused with one"
+            ),
+            Broken::Message => write!(f, "a message on a line is refused"),
+            Broken::Rest(cic) => write!(f, "with empty lines circuit {cic} waits for an answer"),
+        }
+    }
+}
+
+// Whether the far end of a circuit knows of the local blocks of this end, and of no others.
+fn knows(here: Circuit, there: Circuit) -> bool {
+    here.local.maintenance.is_standing() == there.far.maintenance
+        && here.local.hardware.is_standing() == there.far.hardware
+}
+
+// Both lines being empty, the first circuit on whose blocks the two do not agree.
+pub fn look_at_blocks(first: Cic, near: &[Circuit], far: &[Circuit]) -> Option<Broken> {
+    let mut cic = first;
+    for (here, there) in near.iter().zip(far) {
+        if !knows(*here, *there) || !knows(*there, *here) {
+            return Some(Broken::Blocks(cic));
+        }
+        cic = Cic(cic.0.wrapping_add(1));
+    }
+    None
+}
+
+fn is_settled(block: LocalBlock) -> bool {
+    matches!(block, LocalBlock::None | LocalBlock::Set)
+}
+
+fn rests(circuit: Circuit) -> bool {
+    is_settled(circuit.local.maintenance)
+        && is_settled(circuit.local.hardware)
+        && !circuit.reset.is_waiting()
+        && !matches!(circuit.call, Call::Releasing)
+}
+
+// Both lines being empty, the first circuit of an end that waits for something.
+pub fn look_at_rest(first: Cic, table: &[Circuit]) -> Option<Broken> {
+    let mut cic = first;
+    for circuit in table {
+        if !rests(*circuit) {
+            return Some(Broken::Rest(cic));
+        }
+        cic = Cic(cic.0.wrapping_add(1));
+    }
+    None
+}
+
+// A mark for each circuit of an end: whether the last word about it was a begun.
+#[derive(Drop)]
+pub struct Calls {
+    first: Cic,
+    begun: Vec<bool>,
+}
+
+impl Calls {
+    pub fn new(heap: Global, first: Cic, places: usize) -> Result<Calls, AllocError> {
+        Ok(Calls {
+            first,
+            begun: vec![in heap; false; places]?,
+        })
+    }
+
+    // Notes that a call began or ended; whether it was the turn of that.
+    fn note(&mut self, cic: Cic, begins: bool) -> bool {
+        let Some(place) = cic.0.checked_sub(self.first.0) else {
+            return false;
+        };
+        let Some(mark) = self.begun.get_mut(place as usize) else {
+            return false;
+        };
+        let turn = *mark != begins;
+        *mark = begins;
+        turn
+    }
+
+    // Follows the words of a step, and compares the calls with the table then.
+    pub fn look(&mut self, words: &[u32], table: &[Circuit]) -> Option<Broken> {
+        for word in words {
+            let (cic, begins) = match Word::try_from(*word) {
+                Ok(Word::Begun(_, cic)) => (cic, true),
+                Ok(Word::Ended(_, cic)) => (cic, false),
+                _ => continue,
+            };
+            if !self.note(cic, begins) {
+                return Some(Broken::Turns(cic));
+            }
+        }
+        let mut cic = self.first;
+        for (begun, circuit) in self.begun.iter().zip(table) {
+            if *begun == circuit.call.is_idle() {
+                return Some(Broken::Turns(cic));
+            }
+            cic = Cic(cic.0.wrapping_add(1));
+        }
+        None
+    }
+}

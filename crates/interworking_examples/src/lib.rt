@@ -1,0 +1,5 @@
+// Runs of two exchanges, as tests.
+#![tactic(auto)]
+
+#[cfg(test)]
+mod tests;
