@@ -3,6 +3,7 @@ pub mod Allowing
 pub mod Bits
 pub mod Choosing
 pub mod Concerned
+pub mod Cutting
 pub mod Extending
 pub mod Finishing
 pub mod Fresh
