@@ -1,5 +1,5 @@
 -- What an operation tells and writes is cut again into its messages.
-use Rattle.std.proofs.Common.{◌≡◌, ℕ, suc, ◌+◌, ◌/◌, ◌%◌, ◌<◌, ◌≤◌, Bool, true, false, cond, List, [], ◌∷◌, ◌++◌, map, length, take, drop, Some, None, Option, sym, refl, ap, ◌∙◌, subst, append_assoc, length-append, take_at, drop_at, arith}
+use Rattle.std.proofs.Common.{◌≡◌, ℕ, suc, ◌+◌, ◌/◌, ◌<◌, ◌≤◌, Bool, true, false, cond, List, [], ◌∷◌, ◌++◌, map, length, take, drop, Some, None, Option, sym, refl, ap, ◌∙◌, subst, append_assoc, length-append, take_at, drop_at, arith}
 use Rattle.std.specs.List.{flat_map}
 use Rattle.std.proofs.lemmas.Bool.{eq-eqb, ne_eqb}
 use Rattle.status.specs.declared.circuit.Cic.{Cic}
@@ -121,8 +121,9 @@ is_gapless t m T h = (said t m T h).gapless
 -- what is left of messages without a gap starts before their end
 pub starts_within : (at : ℕ) (ws : List ℕ) (end : ℕ) → Gapless at ws end → at ≤ end
 starts_within at [] end h = omega (arith, h)
-starts_within at (w ∷ ws) end h = go (is_send w) h
+starts_within at (w ∷ ws) end h = go (is_send w) (starts_within (at + length_told w) ws end) (starts_within at ws end) h
   where
-    go : (b : Bool) → cond b ((place_told w ≡ at) × Gapless (at + length_told w) ws end) (Gapless at ws end) → at ≤ end
-    go true g = let l = starts_within (at + length_told w) ws end g.1 in omega (arith, l)
-    go false g = starts_within at ws end g
+    go : (b : Bool) → (Gapless (at + length_told w) ws end → at + length_told w ≤ end) → (Gapless at ws end → at ≤ end)
+        → cond b ((place_told w ≡ at) × Gapless (at + length_told w) ws end) (Gapless at ws end) → at ≤ end
+    go true f g h = let l = f h.1 in omega (arith, l)
+    go false f g h = g h
