@@ -1,0 +1,6 @@
+pub mod Effect
+pub mod Call
+pub mod Kept
+pub mod Places
+pub mod Meeting
+pub mod Shown
