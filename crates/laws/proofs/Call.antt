@@ -123,13 +123,36 @@ noting ours cic bit c = go c.reset
 
 -- ## An IAM
 
-unbarred : (ours : Bool) (c : Circuit) → passes_iam ours c ≡ false → Barred ours c → ⊥
+abbrev standing : Reset → LocalBlock → LocalBlock → Circuit → Circuit
+standing r w m c = record c { reset = r; local = record { maintenance = m; hardware = w } }
+
+pub unbarred : (ours : Bool) (c : Circuit) → passes_iam ours c ≡ false → Barred ours c → ⊥
 unbarred ours c h (by_reset n) = search arith
 unbarred ours c h (by_hardware_block n) = search arith
 unbarred ours c h (by_maintenance_block e) = search arith
 unbarred ours c h (by_talking e) = search arith
 unbarred ours c h (by_releasing e) = search arith
 unbarred ours c h (by_control e o) = search arith
+
+pub barred : (ours : Bool) (c : Circuit) → passes_iam ours c ≡ true → Barred ours c
+barred ours c h = go c.reset c.local.hardware c.local.maintenance c.call ours h
+  where
+    go : (r : Reset) (w m : LocalBlock) (x : Call) (o : Bool) → passes_iam o (with_call x (standing r w m c)) ≡ true → Barred o (with_call x (standing r w m c))
+    go reset.Single w m x o h = by_reset (λ e. grind arith)
+    go reset.Group w m x o h = by_reset (λ e. grind arith)
+    go reset.None local.Asked m x o h = by_hardware_block (λ e. grind arith)
+    go reset.None local.Set m x o h = by_hardware_block (λ e. grind arith)
+    go reset.None local.Lifting m x o h = by_hardware_block (λ e. grind arith)
+    go reset.None local.None local.Set x o h = by_maintenance_block refl
+    go reset.None local.None m Talking o h = by_talking refl
+    go reset.None local.None m Releasing o h = by_releasing refl
+    go reset.None local.None m Calling true h = by_control refl refl
+    go reset.None local.None local.None Calling false h = absurd (grind arith)
+    go reset.None local.None local.Asked Calling false h = absurd (grind arith)
+    go reset.None local.None local.Lifting Calling false h = absurd (grind arith)
+    go reset.None local.None local.None Idle o h = absurd (grind arith)
+    go reset.None local.None local.Asked Idle o h = absurd (grind arith)
+    go reset.None local.None local.Lifting Idle o h = absurd (grind arith)
 
 -- it does nothing
 bar : (ours : Bool) (cic : Cic) (c : Circuit) → Barred ours c → Lives ours cic c on.iam [] c.call
@@ -145,9 +168,6 @@ reached ours cic c r w m = go ours c.call r w m
     go false Calling r w m h = rw (r, w, m) (says.gives_way (unbarred false (with_call Calling c) (rw (r, w, m) refl)) refl)
     go o Talking r w m h = rw (r, w, m) (bar o cic (with_call Talking c) (by_talking refl))
     go o Releasing r w m h = rw (r, w, m) (bar o cic (with_call Releasing c) (by_releasing refl))
-
-abbrev standing : Reset → LocalBlock → LocalBlock → Circuit → Circuit
-standing r w m c = record c { reset = r; local = record { maintenance = m; hardware = w } }
 
 arriving : (ours : Bool) (cic : Cic) (c : Circuit) → LivesOn ours cic on.iam c
 arriving ours cic c = go c.reset c.local.hardware c.local.maintenance

@@ -4,3 +4,4 @@ pub mod Kept
 pub mod Places
 pub mod Meeting
 pub mod Shown
+pub mod Block

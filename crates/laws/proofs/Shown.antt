@@ -9,8 +9,10 @@ use Rattle.supervision.specs.Moves.{Move, table_of, words_of}
 use Rattle.supervision.specs.Trunks.{cic_at, placed}
 use Rattle.supervision.specs.declared.trunk.Config.{Config}
 use Rattle.supervision.proofs.Keeping.{table_at, about-words}
+use Rattle.laws.specs.Blocks.{BlocksMove, AllBlocksMove}
 use Rattle.laws.specs.Calls.{Lives, Keeps, CallsLive, CausesKept, is_ours}
 use Rattle.laws.specs.Events.{Operation, answered, event}
+use Rattle.laws.proofs.Block.{blocks}
 use Rattle.laws.proofs.Call.{lives}
 use Rattle.laws.proofs.Effect.{effect}
 use Rattle.laws.proofs.Kept.{keeps}
@@ -30,3 +32,9 @@ calls_live t room o l m h k q =
 
 pub causes_kept : CausesKept
 causes_kept t room o l m h k q = rw (after t room o l m h k q) (keeps (is_ours t.higher (t.first.0 + k)) (event t.first.0 o k) (placed l.table k))
+
+pub blocks_move : AllBlocksMove
+blocks_move t room o l m h k q =
+    let ours = is_ours t.higher (t.first.0 + k) in
+    subst (λ (d : Circuit). BlocksMove ours (event t.first.0 o k) (placed l.table k) d) (sym (after t room o l m h k q))
+    (blocks ours (event t.first.0 o k) (placed l.table k))
