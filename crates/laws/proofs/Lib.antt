@@ -5,3 +5,4 @@ pub mod Places
 pub mod Meeting
 pub mod Shown
 pub mod Block
+pub mod Name

@@ -12,6 +12,9 @@ use Rattle.supervision.proofs.Keeping.{table_at, about-words}
 use Rattle.laws.specs.Blocks.{BlocksMove, AllBlocksMove}
 use Rattle.laws.specs.Calls.{Lives, Keeps, CallsLive, CausesKept, is_ours}
 use Rattle.laws.specs.Events.{Operation, answered, event}
+use Rattle.laws.specs.Octets.{SendsCut}
+use Rattle.supervision.proofs.Cutting.{cuts_back, is_gapless}
+use Rattle.message.proofs.RoundTrip.{written_back}
 use Rattle.laws.proofs.Block.{blocks}
 use Rattle.laws.proofs.Call.{lives}
 use Rattle.laws.proofs.Effect.{effect}
@@ -38,3 +41,6 @@ blocks_move t room o l m h k q =
     let ours = is_ours t.higher (t.first.0 + k) in
     subst (λ (d : Circuit). BlocksMove ours (event t.first.0 o k) (placed l.table k) d) (sym (after t room o l m h k q))
     (blocks ours (event t.first.0 o k) (placed l.table k))
+
+pub sends_cut : SendsCut
+sends_cut t m table l = record { cuts = cuts_back t m table l; gapless = is_gapless t m table l; read = written_back }

@@ -1,3 +1,6 @@
 pub mod Blocks
 pub mod Calls
 pub mod Events
+pub mod Naming
+pub mod Octets
+pub mod Sending

@@ -3,6 +3,8 @@
 
 ghost use Rattle.laws.specs.Blocks.{AllBlocksMove};
 ghost use Rattle.laws.specs.Calls.{CallsLive, CausesKept};
+ghost use Rattle.laws.specs.Naming.{StatusesTell, GroupsName};
+ghost use Rattle.laws.specs.Octets.{SendsCut};
 
 // How a call begins, goes on and ends, and what is told of it; and the cause that is kept of a release.
 pub fn calls_live()
@@ -13,4 +15,19 @@ pub fn calls_live()
 // How the blocks of either side and a waiting reset move, by single messages and by group messages alike.
 pub fn blocks_move()
     ensures { AllBlocksMove }
+{}
+
+// Bit n of a status that is made of a test is set where the test holds.
+pub fn statuses_tell()
+    ensures { StatusesTell }
+{}
+
+// Our group messages name the circuits that a test holds of, one message for each PCM system that has one.
+pub fn groups_name()
+    ensures { GroupsName }
+{}
+
+// The words that are told cut the octets that are written into the messages that are meant.
+pub fn sends_cut()
+    ensures { SendsCut }
 {}
