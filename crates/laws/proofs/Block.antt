@@ -1,11 +1,11 @@
 -- The rules move blocks and waiting resets as the laws say.
-use Rattle.std.proofs.Common.{◌≡◌, ◌≢◌, ◌⊎◌, ℕ, Bool, true, false, cond, not, ◌&&◌, Some, None, sym, refl, ap, ◌∙◌, inl, inr, arith}
+use Rattle.std.proofs.Common.{◌≡◌, ◌≢◌, Bool, true, false, cond, not, ◌&&◌, Some, None, sym, refl, ◌∙◌, inl, inr, arith}
 use Rattle.std.proofs.lemmas.Bool.{false≢true, and_right}
 use Rattle.message.specs.declared.kinds.BlockType.{BlockType}
 use Rattle.message.specs.declared.kinds.BlockType.TheVariants.{Maintenance, Hardware}
 use Rattle.circuit.specs.Changes.{change, quiet, with_call, with_fars, with_reset}
 use Rattle.circuit.specs.Orders.{lifted}
-use Rattle.circuit.specs.Circuits.{no_far, no_local, is_calling, is_none, is_standing, is_lifting, is_asked, is_releasing, is_group, is_single}
+use Rattle.circuit.specs.Circuits.{no_far, no_local, is_calling, is_none, is_standing, is_asked, is_releasing, is_group, is_single}
 use Rattle.circuit.specs.Signals.{acknowledged, asked_again, passes_iam, unlocked}
 use Rattle.circuit.specs.declared.record.Call.{Call}
 use Rattle.circuit.specs.declared.record.Call.TheVariants.{Idle, Calling, Talking, Releasing}

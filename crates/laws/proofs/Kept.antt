@@ -1,10 +1,7 @@
 -- The rules keep the cause of our last release.
-use Rattle.std.proofs.Common.{◌≡◌, ◌≢◌, ℕ, Bool, true, false, refl, inl, inr, ⊎_elim, arith}
-use Rattle.message.specs.declared.kinds.BlockType.{BlockType}
+use Rattle.std.proofs.Common.{◌≡◌, Bool, refl, inl, inr, ⊎_elim, arith}
 use Rattle.message.specs.declared.kinds.BlockType.TheVariants.{Maintenance, Hardware}
 use Rattle.circuit.specs.Changes.{with_call, with_reset}
-use Rattle.circuit.specs.Circuits.{is_releasing, is_calling, is_connected, is_group}
-use Rattle.circuit.specs.Signals.{passes_iam}
 use Rattle.circuit.specs.declared.record.Call.{Call}
 use Rattle.circuit.specs.declared.record.Call.TheVariants.{Idle, Calling, Talking, Releasing}
 use Rattle.circuit.specs.declared.record.Circuit.{Circuit}

@@ -6,3 +6,5 @@ pub mod Meeting
 pub mod Shown
 pub mod Block
 pub mod Name
+pub mod Send
+pub mod Expiry

@@ -1,6 +1,6 @@
 -- At each circuit, an accepted operation does what its event there does.
-use Rattle.std.proofs.Common.{◌≡◌, ℕ, zero, suc, ◌+◌, ◌-◌, ◌/◌, ◌%◌, ◌<◌, ◌≤◌, Bool, true, false, cond, not, ◌&&◌, ◌||◌, eqb, ltb, leb, List, [], ◌∷◌, ◌++◌, length, Some, None, Ok, Err, Option, Result, sym, refl, ap, ◌∙◌, subst, ⊎_elim, arith}
-use Rattle.std.proofs.lemmas.Bool.{cases_Bool, eqb-true, not-false, and_parts, false≢true, cases_lt}
+use Rattle.std.proofs.Common.{◌≡◌, ℕ, ◌+◌, ◌-◌, ◌<◌, ◌≤◌, Bool, true, false, cond, not, ◌&&◌, ◌||◌, eqb, ltb, leb, List, [], ◌∷◌, ◌++◌, length, Some, None, Ok, Err, Option, Result, sym, refl, ap, ◌∙◌, subst, ⊎_elim, arith}
+use Rattle.std.proofs.lemmas.Bool.{eqb-true, not-false, false≢true, cases_lt}
 use Rattle.std.proofs.lemmas.List.{get_or_past}
 use Rattle.status.specs.Bits.{is_named}
 use Rattle.status.specs.declared.circuit.Cic.{Cic}
@@ -17,7 +17,7 @@ use Rattle.policy.specs.declared.interface.Place.{Place}
 use Rattle.circuit.specs.Changes.{quiet}
 use Rattle.circuit.specs.Circuits.{block_of, is_group, is_none, is_open, is_releasing, is_standing, vacant}
 use Rattle.circuit.specs.Laws.{allows}
-use Rattle.circuit.specs.Orders.{applied, on_reset}
+use Rattle.circuit.specs.Orders.{applied}
 use Rattle.circuit.specs.Signals.{on_iam, on_progress, on_rel, on_rlc, on_far_block, on_far_unblock, on_block_ack, on_unblock_ack, on_rsc, on_grs, on_gra}
 use Rattle.circuit.specs.declared.record.Circuit.{Circuit}
 use Rattle.circuit.specs.declared.record.Cause.{Cause}
@@ -32,12 +32,12 @@ use Rattle.refusal.specs.declared.reasons.Refusal.{Refusal}
 use Rattle.refusal.specs.declared.reasons.Refusal.TheVariants.{Address, State, Argument, Choice}
 use Rattle.refusal.specs.Refusals.{raised, unless, and_then}
 use Rattle.supervision.specs.Answering.{Order, answer, seize, release as order_release, block, unblock, reset as order_reset, group_block, group_unblock, group_reset as order_group_reset}
-use Rattle.supervision.specs.Expiring.{repeating, repeats_one, repeats_group, repeats_reset, asked_for, lifting_for, alert_at, alerting, gives_up, expired, timed}
+use Rattle.supervision.specs.Expiring.{repeating, repeats_group, repeats_reset, asked_for, lifting_for, alert_at, alerting, gives_up, expired, timed}
 use Rattle.supervision.specs.Groups.{mask_by, group_for, groups, status_by}
 use Rattle.supervision.specs.Lending.{Lent}
 use Rattle.supervision.specs.Moves.{Move, some_from, step_of}
-use Rattle.supervision.specs.Orders.{admitted, circuit_of, ordered, only, singly, cause_of, release_message, slots, every_slot, group_message, reset_message, groupwise, why_of, type_of, typed, clearing}
-use Rattle.supervision.specs.Receiving.{as_cic, moving, nothing, to_one, is_range, in_range, marked, to_range, is_counted, shows, heard}
+use Rattle.supervision.specs.Orders.{admitted, circuit_of, ordered, only, singly, cause_of, release_message, slots, every_slot, group_message, reset_message, groupwise, why_of, type_of, clearing}
+use Rattle.supervision.specs.Receiving.{as_cic, moving, nothing, is_range, in_range, marked, to_range, is_counted, shows, heard}
 use Rattle.supervision.specs.Seizing.{may_ask, seizable, seizing}
 use Rattle.supervision.specs.Trunks.{controls, first_of, placed}
 use Rattle.supervision.specs.declared.trunk.Config.{Config}
@@ -46,7 +46,7 @@ use Rattle.laws.specs.Calls.{is_ours}
 use Rattle.laws.specs.Events as on
 use Rattle.laws.specs.Events.{Event, when, Operation, order, receive, expire, answered, event, type_told, names, within, in_mask, in_system, counts, heard_as, expired_as}
 use Rattle.laws.proofs.Effect.{effect, may}
-use Rattle.laws.proofs.Places.{not_below, one_named, range_from, range_named, offset, status_named, system_named, type_named, control_named, same_test}
+use Rattle.laws.proofs.Places.{not_below, one_named, range_from, range_named, offset, status_named, system_named, type_named, control_named}
 
 -- what is done to c is what the event does, and the circuit allows it
 pub record Meets (ours : Bool) (e : Event) (c : Circuit) (d : Change) : Type 0 where
@@ -166,7 +166,7 @@ order_met t room (seize body choice) l m k h b q =
     seize_ordered t body choice l.table m k (and_ok (may_ask t room body l) (λ _. seizing t body choice l.table) m h).2 q
 order_met t room (order_release cic location value) l m k h b q =
     let a = (and_ok (admitted t room l)
-        (λ _. and_then (cause_of location value) (λ cause. singly t cic (rule.Release cause) (release_message cic.0 cause) l.table)) m h).2 in
+    (λ _. and_then (cause_of location value) (λ cause. singly t cic (rule.Release cause) (release_message cic.0 cause) l.table)) m h).2 in
     let c = and_ok (cause_of location value) (λ cause. singly t cic (rule.Release cause) (release_message cic.0 cause) l.table) m a in
     let d = past (ltb 15 location || ltb 127 value) Argument _ c.0 c.1 in
     let z = same_cause _ c.0 d.1 in
@@ -256,8 +256,8 @@ heard_met t (grouped c Cgua i r s) T m k h q = status_heard t c r s on_unblock_a
     (λ why ours. record { did = refl; fit = refl })
 heard_met t (group_reset c r) T m k h q =
     let x = moving (in_range t c r) (λ _. on_grs)
-        (groups t Cgb Hardware (λ j y. y.equipped && (in_range t c r j && is_standing y.local.hardware)) T
-        ++ (group_reset_ack c r (status_by (λ n. shows (circuit_of t (as_cic (c + n)) T)) r) ∷ [])) in
+    (groups t Cgb Hardware (λ j y. y.equipped && (in_range t c r j && is_standing y.local.hardware)) T
+    ++ (group_reset_ack c r (status_by (λ n. shows (circuit_of t (as_cic (c + n)) T)) r) ∷ [])) in
     range_heard t c r [] x T m k (when (within c r (t.first.0 + k)) on.grs) h
     (λ l. at_named t T x k on.grs (within c r (t.first.0 + k)) q (range_named t c r k l) (λ n. record { did = refl; fit = refl }))
 heard_met t (group_reset_ack c r s) T m k h q =
@@ -323,7 +323,7 @@ given_up t c T m k h q =
     let has : x.equipped ≡ true = not-false x.equipped found.0 in
     let l = not_below t (as_cic c) T has in
     let at : (eqb c (t.first.0 + k) ≡ true) → x ≡ placed T k =
-        λ n. at_place t (as_cic c) T has ∙ ap (placed T) (sym (eqb-true k (c - t.first.0) (one_named t.first.0 c k l ∙ n))) in
+    λ n. at_place t (as_cic c) T has ∙ ap (placed T) (sym (eqb-true k (c - t.first.0) (one_named t.first.0 c k l ∙ n))) in
     go x at found.1
   where
     b : Bool

@@ -1,5 +1,5 @@
 -- Statuses and group messages of ours name what their tests say.
-use Rattle.std.proofs.Common.{◌≡◌, ℕ, zero, suc, ◌+◌, ◌-◌, ◌*◌, ◌/◌, ◌%◌, ◌^◌, ◌<◌, ◌≤◌, Bool, true, false, cond, ◌&&◌, eqb, ltb, leb, List, [], ◌∷◌, ◌++◌, length, get_or, sym, refl, ap, ◌∙◌, ⊎_elim, arith}
+use Rattle.std.proofs.Common.{◌≡◌, ℕ, zero, suc, ◌+◌, ◌*◌, ◌/◌, ◌%◌, ◌^◌, ◌<◌, ◌≤◌, Bool, true, false, cond, ◌&&◌, eqb, ltb, leb, List, [], ◌∷◌, ◌++◌, get_or, sym, refl, ap, ◌∙◌, ⊎_elim, arith}
 use native.Mathlib.Nat.{zero-div}
 use Rattle.std.proofs.lemmas.Bool.{cases_lt, false≢true, eq-eqb, eqb-true, le-leb, lt-leb, lt-ltb, and_parts}
 use Rattle.std.proofs.lemmas.List.{append-nil, get_or_past}
@@ -9,7 +9,7 @@ use Rattle.message.specs.Msg.{Msg}
 use Rattle.message.specs.declared.kinds.BlockType.{BlockType}
 use Rattle.message.specs.declared.kinds.Grouped.{Grouped}
 use Rattle.circuit.specs.declared.record.Circuit.{Circuit}
-use Rattle.supervision.specs.Groups.{bits_below, mask_by, group_for, groups_below, status_from, status_by}
+use Rattle.supervision.specs.Groups.{mask_by, group_for, groups_below, status_by}
 use Rattle.supervision.specs.Orders.{group_message, status_of}
 use Rattle.supervision.specs.Trunks.{placed}
 use Rattle.supervision.specs.declared.trunk.Config.{Config}
@@ -63,7 +63,7 @@ bit_one : (x : ℕ) (b : Bool) → eqb x 1 ≡ b → Exactly (x ≡ 1) (b ≡ tr
 bit_one x b e = (λ h. sym e ∙ eq-eqb x 1 h, λ h. eqb-true x 1 (e ∙ h))
 
 -- the status of a mask, if each of its bits is as P says
-mask_tells : (mask : ℕ) (P : ℕ → Type 0) → mask < 2 ^ 32 → ((n : ℕ) → n ≤ 30 → Exactly (mask / 2 ^ (n + 1) % 2 ≡ 1) (P n)) → Tells P 30 (status_of mask)
+pub mask_tells : (mask : ℕ) (P : ℕ → Type 0) → mask < 2 ^ 32 → ((n : ℕ) → n ≤ 30 → Exactly (mask / 2 ^ (n + 1) % 2 ≡ 1) (P n)) → Tells P 30 (status_of mask)
 mask_tells mask P small h = record {
   size = refl;
   bits = λ n l.
@@ -99,7 +99,7 @@ mask_named t what why p P T system r = record {
       (λ h. (r k (placed T k)).0 (e.0 h), λ h. e.1 ((r k (placed T k)).1 h)));
 }
 
-some_concerned : (p : ℕ → Circuit → Bool) (P : ℕ → Circuit → Type 0) (T : List Circuit) (system : ℕ) → Reflects p P → eqb (mask_by p system T) 0 ≡ false → Concerned P T system
+pub some_concerned : (p : ℕ → Circuit → Bool) (P : ℕ → Circuit → Type 0) (T : List Circuit) (system : ℕ) → Reflects p P → eqb (mask_by p system T) 0 ≡ false → Concerned P T system
 some_concerned p P T system r e =
     let w = some_below (slot_test p system T) 32 e in
     let both = and_parts (ltb 0 w.0) (p (system * 32 + w.0) (placed T (system * 32 + w.0))) w.2 in
@@ -113,7 +113,7 @@ some_concerned p P T system r e =
     positive : (n : ℕ) → ltb 0 n ≡ true → 1 ≤ n
     positive n h = grind arith
 
-none_concerned : (p : ℕ → Circuit → Bool) (P : ℕ → Circuit → Type 0) (T : List Circuit) (system : ℕ) → Reflects p P → eqb (mask_by p system T) 0 ≡ true → Concerned P T system → ⊥
+pub none_concerned : (p : ℕ → Circuit → Bool) (P : ℕ → Circuit → Type 0) (T : List Circuit) (system : ℕ) → Reflects p P → eqb (mask_by p system T) 0 ≡ true → Concerned P T system → ⊥
 none_concerned p P T system r e c =
     let a = c.is_slot in
     let k = system * 32 + c.slot in

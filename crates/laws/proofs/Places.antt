@@ -1,16 +1,12 @@
 -- Which circuits an operation names: by place in the rules, by CIC in the laws.
-use Rattle.std.proofs.Common.{◌≡◌, ℕ, zero, suc, ◌+◌, ◌-◌, ◌/◌, ◌%◌, ◌<◌, ◌≤◌, Bool, true, false, not, ◌&&◌, eqb, ltb, leb, List, length, sym, refl, ap, ◌∙◌, ⊎_elim, arith}
-use Rattle.std.proofs.lemmas.Bool.{cases_lt, cases_eq, cases_Bool, eqb-true, eq-eqb, leb-true, le-leb, ne_eqb, and_parts, and_right, false≢true}
-use Rattle.std.proofs.lemmas.List.{get_or_past}
-use Rattle.status.specs.Bits.{is_named}
+use Rattle.std.proofs.Common.{◌≡◌, ℕ, zero, suc, ◌+◌, ◌-◌, ◌/◌, ◌%◌, ◌<◌, ◌≤◌, Bool, true, false, ◌&&◌, eqb, ltb, leb, List, sym, refl, ◌∙◌, ⊎_elim, arith}
+use Rattle.std.proofs.lemmas.Bool.{cases_lt, eqb-true, eq-eqb, leb-true, le-leb, ne_eqb, and_parts, false≢true}
 use Rattle.status.specs.declared.circuit.Cic.{Cic}
-use Rattle.circuit.specs.Circuits.{vacant}
 use Rattle.circuit.specs.declared.record.Circuit.{Circuit}
-use Rattle.supervision.specs.Orders.{circuit_of, only, slots, every_slot, why_of}
-use Rattle.supervision.specs.Receiving.{as_cic, is_range, in_range, marked}
-use Rattle.supervision.specs.Trunks.{controls, places, placed}
+use Rattle.supervision.specs.Orders.{circuit_of, slots, every_slot, why_of}
+use Rattle.supervision.specs.Receiving.{is_range, in_range, marked}
+use Rattle.supervision.specs.Trunks.{controls, places}
 use Rattle.supervision.specs.declared.trunk.Config.{Config}
-use Rattle.supervision.proofs.Allowing.{at_place}
 use Rattle.supervision.proofs.Concerned.{every_slot_names}
 use Rattle.laws.specs.Calls.{is_ours}
 use Rattle.laws.specs.Events.{type_told, within, names, in_system}

@@ -1,16 +1,15 @@
 -- The laws of one circuit, shown of every accepted operation.
-use Rattle.std.proofs.Common.{◌≡◌, ℕ, ◌+◌, true, List, Ok, sym, ap, ◌∙◌, subst}
+use Rattle.std.proofs.Common.{◌≡◌, ℕ, ◌+◌, true, Ok, sym, ap, ◌∙◌, subst}
 use Rattle.circuit.specs.Laws.{told_of}
 use Rattle.circuit.specs.declared.record.Circuit.{Circuit}
 use Rattle.circuit.specs.declared.rules.Change.{Change}
-use Rattle.supervision.specs.Laws.{about}
 use Rattle.supervision.specs.Lending.{Lent}
-use Rattle.supervision.specs.Moves.{Move, table_of, words_of}
+use Rattle.supervision.specs.Moves.{Move, table_of}
 use Rattle.supervision.specs.Trunks.{cic_at, placed}
 use Rattle.supervision.specs.declared.trunk.Config.{Config}
 use Rattle.supervision.proofs.Keeping.{table_at, about-words}
 use Rattle.laws.specs.Blocks.{BlocksMove, AllBlocksMove}
-use Rattle.laws.specs.Calls.{Lives, Keeps, CallsLive, CausesKept, is_ours}
+use Rattle.laws.specs.Calls.{CallsLive, CausesKept, is_ours}
 use Rattle.laws.specs.Events.{Operation, answered, event}
 use Rattle.laws.specs.Octets.{SendsCut}
 use Rattle.supervision.proofs.Cutting.{cuts_back, is_gapless}

@@ -1,5 +1,5 @@
 -- The life of a call: from which call, by which event, to which call, and what is told.
-use Rattle.std.specs.Prelude.{◌≡◌, ◌≢◌, ◌⊎◌, ℕ, ◌+◌, ◌<◌, ◌%◌, Bool, true, false, not, List, [], ◌∷◌, length, Ok, ◌==◌}
+use Rattle.std.specs.Prelude.{◌≡◌, ◌≢◌, ◌⊎◌, ℕ, ◌+◌, ◌%◌, Bool, true, false, List, [], ◌∷◌, Ok, ◌==◌}
 use Rattle.status.specs.declared.circuit.Cic.{Cic}
 use Rattle.message.specs.declared.kinds.BlockType.{BlockType}
 use Rattle.message.specs.declared.kinds.BlockType.TheVariants.{Maintenance, Hardware}
@@ -10,7 +10,6 @@ use Rattle.circuit.specs.declared.record.Reset.TheVariants as reset
 use Rattle.circuit.specs.declared.record.Cause.{Cause}
 use Rattle.circuit.specs.declared.record.Circuit.{Circuit}
 use Rattle.told.specs.declared.kinds.Direction.TheVariants.{Outgoing, Incoming}
-use Rattle.told.specs.declared.kinds.EndCause.{EndCause}
 use Rattle.told.specs.declared.kinds.EndCause.TheVariants as end
 use Rattle.told.specs.declared.kinds.Word.{Word}
 use Rattle.told.specs.declared.kinds.Word.TheVariants.{Begun, Ended}

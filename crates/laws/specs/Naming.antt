@@ -1,5 +1,5 @@
 -- Which circuits our statuses and group messages name.
-use Rattle.std.specs.Prelude.{◌≡◌, ℕ, zero, suc, ◌+◌, ◌-◌, ◌*◌, ◌<◌, ◌≤◌, Bool, true, List, [], ◌∷◌, ◌++◌, length}
+use Rattle.std.specs.Prelude.{◌≡◌, ℕ, zero, suc, ◌+◌, ◌*◌, ◌<◌, ◌≤◌, Bool, true, List, [], ◌∷◌, ◌++◌, length}
 use Rattle.status.specs.Bits.{bit_at, octets_for}
 use Rattle.message.specs.Laws.{Exactly}
 use Rattle.message.specs.Meaning.{indicator_of}
@@ -33,7 +33,7 @@ pub record Concerned (P : ℕ → Circuit → Type 0) (T : List Circuit) (system
 pub data EachNames (t : Config) (what : Grouped) (why : BlockType) (P : ℕ → Circuit → Type 0) (T : List Circuit) : ℕ → List Msg → Type 0 where
   none : EachNames t what why P T zero []
   concerned : (system : ℕ) (ms : List Msg) (message : Msg) → EachNames t what why P T system ms → Concerned P T system → Names t what why P T system message
-            → EachNames t what why P T (suc system) (ms ++ message ∷ [])
+      → EachNames t what why P T (suc system) (ms ++ message ∷ [])
   unconcerned : (system : ℕ) (ms : List Msg) → EachNames t what why P T system ms → (Concerned P T system → ⊥) → EachNames t what why P T (suc system) ms
 
 abbrev pub StatusesTell : Type 0

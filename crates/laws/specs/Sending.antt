@@ -1,11 +1,10 @@
 -- What is sent: for each order, in answer to each message, and at each expiry.
-use Rattle.std.specs.Prelude.{◌≡◌, ◌≢◌, ◌⊎◌, ℕ, ◌+◌, ◌-◌, ◌*◌, ◌/◌, true, List, [], ◌∷◌, ◌++◌, Some, None, Ok, Option}
+use Rattle.std.specs.Prelude.{◌≡◌, ◌≢◌, ℕ, ◌+◌, ◌-◌, ◌*◌, ◌/◌, ◌<◌, true, List, [], ◌∷◌, ◌++◌, Some, None, Ok, Option}
 use Rattle.status.specs.declared.circuit.Cic.{Cic}
 use Rattle.message.specs.Decode.{decode}
 use Rattle.message.specs.Msg.{Msg, single, release_complete, group_reset, group_reset_ack, grouped, release, call}
 use Rattle.message.specs.declared.kinds.BlockType.{BlockType}
-use Rattle.message.specs.declared.kinds.BlockType.TheVariants.{Maintenance, Hardware}
-use Rattle.message.specs.declared.kinds.CallKind.{CallKind}
+use Rattle.message.specs.declared.kinds.BlockType.TheVariants.{Hardware}
 use Rattle.message.specs.declared.kinds.CallKind.TheVariants.{Iam}
 use Rattle.message.specs.declared.kinds.Grouped.{Grouped}
 use Rattle.message.specs.declared.kinds.Grouped.TheVariants.{Cgb, Cgu, Cgba, Cgua}
@@ -51,10 +50,10 @@ GroupIf t what why P T system sent =
 
 -- ## Orders
 
--- one group message, which names the circuits of the mask
+-- one group message, which names the circuits of the mask of 32 bits
 abbrev pub ByMask : Config → Grouped → ℕ → ℕ → ℕ → List Circuit → List Msg → Type 0
 ByMask t what kind system mask T sent =
-    (message : Msg) × Names t what (type_told kind) (λ k x. in_mask system mask k ≡ true) T system message × (sent ≡ message ∷ [])
+    mask < 0x1_0000_0000 → (message : Msg) × Names t what (type_told kind) (λ k x. in_mask system mask k ≡ true) T system message × (sent ≡ message ∷ [])
 
 abbrev pub OrderSends : Config → List Circuit → Order → List Msg → Type 0
 OrderSends t T (of.seize body choice) sent = (place : Place) × (choice ≡ Some place) × (sent ≡ call (t.first.0 + place.0) Iam body ∷ [])
@@ -83,7 +82,7 @@ ResetAnswer t T c sent =
 abbrev pub GroupResetAnswer : Config → List Circuit → ℕ → ℕ → List Msg → Type 0
 GroupResetAnswer t T c r sent =
     (all : List Msg) × (status : List ℕ)
-    × EachNames t Cgb Hardware (λ k x. (x.equipped ≡ true) × (within c r (t.first.0 + k) ≡ true) × Standing x.local.hardware) T t.systems all
+    × EachNames t Cgb Hardware (λ k x. (x.equipped ≡ true) × ((within c r (t.first.0 + k) ≡ true) × Standing x.local.hardware)) T t.systems all
     × Tells (λ n. ((at_cic t T (c + n)).equipped ≡ true) × Standing (at_cic t T (c + n)).local.maintenance) r status
     × (sent ≡ all ++ group_reset_ack c r status ∷ [])
 

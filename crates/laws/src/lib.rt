@@ -5,6 +5,7 @@ ghost use Rattle.laws.specs.Blocks.{AllBlocksMove};
 ghost use Rattle.laws.specs.Calls.{CallsLive, CausesKept};
 ghost use Rattle.laws.specs.Naming.{StatusesTell, GroupsName};
 ghost use Rattle.laws.specs.Octets.{SendsCut};
+ghost use Rattle.laws.specs.Sending.{OrdersSend, MessagesAnswered, ExpiriesRepeat};
 
 // How a call begins, goes on and ends, and what is told of it; and the cause that is kept of a release.
 pub fn calls_live()
@@ -15,6 +16,21 @@ pub fn calls_live()
 // How the blocks of either side and a waiting reset move, by single messages and by group messages alike.
 pub fn blocks_move()
     ensures { AllBlocksMove }
+{}
+
+// What our orders send.
+pub fn orders_send()
+    ensures { OrdersSend }
+{}
+
+// What is answered to each message of the far exchange.
+pub fn messages_answered()
+    ensures { MessagesAnswered }
+{}
+
+// What each timer repeats, while it is waited for, and when it alerts.
+pub fn expiries_repeat()
+    ensures { ExpiriesRepeat }
 {}
 
 // Bit n of a status that is made of a test is set where the test holds.
