@@ -5,7 +5,7 @@ use Rattle.message.specs.declared.kinds.BlockType.{BlockType}
 use Rattle.message.specs.declared.kinds.BlockType.TheVariants.{Maintenance, Hardware}
 use Rattle.circuit.specs.Changes.{change, quiet, with_call, with_fars, with_reset}
 use Rattle.circuit.specs.Orders.{lifted}
-use Rattle.circuit.specs.Circuits.{no_far, no_local, is_calling, is_none, is_standing, is_asked, is_releasing, is_group, is_single}
+use Rattle.circuit.specs.Circuits.{is_asked, is_calling, is_group, is_none, is_releasing, is_single, is_standing, is_waiting, no_far, no_local}
 use Rattle.circuit.specs.Signals.{acknowledged, asked_again, passes_iam, unlocked}
 use Rattle.circuit.specs.declared.record.Call.{Call}
 use Rattle.circuit.specs.declared.record.Call.TheVariants.{Idle, Calling, Talking, Releasing}
@@ -21,7 +21,7 @@ use Rattle.laws.specs.Events.{Event}
 use Rattle.told.specs.declared.kinds.Direction.TheVariants.{Incoming}
 use Rattle.told.specs.declared.kinds.EndCause.TheVariants as end
 use Rattle.laws.proofs.Call.{barred, unbarred}
-use Rattle.laws.proofs.Effect.{effect}
+use Rattle.laws.proofs.Effect.{effect, may}
 
 -- whether two types are one
 abbrev alike : BlockType → BlockType → Bool
@@ -53,9 +53,9 @@ moves_local why c e b = false
 
 -- it does so only where the test holds
 local_test : (why : BlockType) (c : Circuit) (e : Event) (b x : LocalBlock) → LocalMoves why c e b x → moves_local why c e b ≡ true
-local_test why c _ _ _ (says.is_asked b) = own why
+local_test why c _ _ _ (says.is_asked r b) = own why
 local_test why c _ _ _ says.is_set = rw (own why) refl
-local_test why c _ _ _ (says.is_lifted b n) = rw (own why) (go b n)
+local_test why c _ _ _ (says.is_lifted r b n) = rw (own why) (go b n)
   where
     go : (b : LocalBlock) → b ≢ local.None → not (is_none b) ≡ true
     go local.None n = absurd (n refl)
@@ -87,11 +87,11 @@ set_on why c local.Asked = inl says.is_set
 set_on why c local.Set = stays why c (on.bla why) local.Set local.Set (and_right (alike why why) false refl) refl
 set_on why c local.Lifting = stays why c (on.bla why) local.Lifting local.Lifting (and_right (alike why why) false refl) refl
 
-lifted_on : (why : BlockType) (c : Circuit) (b : LocalBlock) → LocalBecomes why c (on.unblocked why) b (lifted b)
-lifted_on why c local.None = stays why c (on.unblocked why) local.None local.None (and_right (alike why why) false refl) refl
-lifted_on why c local.Asked = inl (says.is_lifted local.Asked (λ e. grind arith))
-lifted_on why c local.Set = inl (says.is_lifted local.Set (λ e. grind arith))
-lifted_on why c local.Lifting = inl (says.is_lifted local.Lifting (λ e. grind arith))
+lifted_on : (why : BlockType) (c : Circuit) → c.reset ≡ reset.None → (b : LocalBlock) → LocalBecomes why c (on.unblocked why) b (lifted b)
+lifted_on why c r local.None = stays why c (on.unblocked why) local.None local.None (and_right (alike why why) false refl) refl
+lifted_on why c r local.Asked = inl (says.is_lifted r local.Asked (λ e. grind arith))
+lifted_on why c r local.Set = inl (says.is_lifted r local.Set (λ e. grind arith))
+lifted_on why c r local.Lifting = inl (says.is_lifted r local.Lifting (λ e. grind arith))
 
 gone_on : (why : BlockType) (c : Circuit) (b : LocalBlock) → LocalBecomes why c (on.uba why) b (unlocked b)
 gone_on why c local.None = stays why c (on.uba why) local.None local.None (and_right (alike why why) false refl) refl
@@ -130,41 +130,47 @@ t5_on ours why c = go c.call
     go Talking = stays why (with_call Talking c) on.t5 (of_type why c.local) (of_type why c.local) refl refl
     go Releasing = cleared_on why on.t5 (with_call Releasing c) (says.by_timer refl)
 
-locals : (ours : Bool) (why : BlockType) (e : Event) (c : Circuit) → LocalBecomes why c e (of_type why c.local) (of_type why (effect ours e c).circuit.local)
-locals ours why on.seized c = unmoved ours why on.seized c refl refl
-locals ours why (on.released cause) c = unmoved ours why (on.released cause) c refl refl
-locals ours Maintenance (on.blocked Maintenance) c = inl (says.is_asked c.local.maintenance)
-locals ours Maintenance (on.blocked Hardware) c = unmoved ours Maintenance (on.blocked Hardware) c refl refl
-locals ours Hardware (on.blocked Maintenance) c = unmoved ours Hardware (on.blocked Maintenance) c refl refl
-locals ours Hardware (on.blocked Hardware) c = inl (says.is_asked c.local.hardware)
-locals ours Maintenance (on.unblocked Maintenance) c = lifted_on Maintenance c c.local.maintenance
-locals ours Maintenance (on.unblocked Hardware) c = unmoved ours Maintenance (on.unblocked Hardware) c refl refl
-locals ours Hardware (on.unblocked Maintenance) c = unmoved ours Hardware (on.unblocked Maintenance) c refl refl
-locals ours Hardware (on.unblocked Hardware) c = lifted_on Hardware c c.local.hardware
-locals ours why on.circuit_reset c = cleared_on why on.circuit_reset c says.by_circuit
-locals ours why on.system_reset c = cleared_on why on.system_reset c says.by_system
-locals ours why on.iam c = unmoved ours why on.iam c refl (grind arith)
-locals ours why on.progress c = unmoved ours why on.progress c refl (grind arith)
-locals ours why on.rel c = unmoved ours why on.rel c refl (grind arith)
-locals ours why on.rlc c = unmoved ours why on.rlc c refl (grind arith)
-locals ours Maintenance on.rsc c = again_on Maintenance c c.local.maintenance
-locals ours Hardware on.rsc c = again_on Hardware c c.local.hardware
-locals ours Maintenance on.grs c = unmoved ours Maintenance on.grs c refl refl
-locals ours Hardware on.grs c = grs_on c c.local.hardware
-locals ours why (on.blo Maintenance) c = unmoved ours why (on.blo Maintenance) c refl refl
-locals ours why (on.blo Hardware) c = unmoved ours why (on.blo Hardware) c refl refl
-locals ours why (on.ubl x) c = unmoved ours why (on.ubl x) c refl refl
-locals ours Maintenance (on.bla Maintenance) c = set_on Maintenance c c.local.maintenance
-locals ours Maintenance (on.bla Hardware) c = unmoved ours Maintenance (on.bla Hardware) c refl refl
-locals ours Hardware (on.bla Maintenance) c = unmoved ours Hardware (on.bla Maintenance) c refl refl
-locals ours Hardware (on.bla Hardware) c = set_on Hardware c c.local.hardware
-locals ours Maintenance (on.uba Maintenance) c = gone_on Maintenance c c.local.maintenance
-locals ours Maintenance (on.uba Hardware) c = unmoved ours Maintenance (on.uba Hardware) c refl refl
-locals ours Hardware (on.uba Maintenance) c = unmoved ours Hardware (on.uba Maintenance) c refl refl
-locals ours Hardware (on.uba Hardware) c = gone_on Hardware c c.local.hardware
-locals ours why (on.gra bit) c = unmoved ours why (on.gra bit) c refl (grind arith)
-locals ours why on.t5 c = t5_on ours why c
-locals ours why on.nothing c = unmoved ours why on.nothing c refl refl
+none_waits : (r : Reset) → not (is_waiting r) ≡ true → r ≡ reset.None
+none_waits r h = grind arith
+
+not_group : (r : Reset) → not (is_group r) ≡ true → r ≢ reset.Group
+not_group r h e = grind arith
+
+locals : (ours : Bool) (why : BlockType) (e : Event) (c : Circuit) → may e c ≡ true → LocalBecomes why c e (of_type why c.local) (of_type why (effect ours e c).circuit.local)
+locals ours why on.seized c h = unmoved ours why on.seized c refl refl
+locals ours why (on.released cause) c h = unmoved ours why (on.released cause) c refl refl
+locals ours Maintenance (on.blocked Maintenance) c h = inl (says.is_asked (none_waits c.reset h) c.local.maintenance)
+locals ours Maintenance (on.blocked Hardware) c h = unmoved ours Maintenance (on.blocked Hardware) c refl refl
+locals ours Hardware (on.blocked Maintenance) c h = unmoved ours Hardware (on.blocked Maintenance) c refl refl
+locals ours Hardware (on.blocked Hardware) c h = inl (says.is_asked (none_waits c.reset h) c.local.hardware)
+locals ours Maintenance (on.unblocked Maintenance) c h = lifted_on Maintenance c (none_waits c.reset h) c.local.maintenance
+locals ours Maintenance (on.unblocked Hardware) c h = unmoved ours Maintenance (on.unblocked Hardware) c refl refl
+locals ours Hardware (on.unblocked Maintenance) c h = unmoved ours Hardware (on.unblocked Maintenance) c refl refl
+locals ours Hardware (on.unblocked Hardware) c h = lifted_on Hardware c (none_waits c.reset h) c.local.hardware
+locals ours why on.circuit_reset c h = cleared_on why on.circuit_reset c says.by_circuit
+locals ours why on.system_reset c h = cleared_on why on.system_reset c says.by_system
+locals ours why on.iam c h = unmoved ours why on.iam c refl (grind arith)
+locals ours why on.progress c h = unmoved ours why on.progress c refl (grind arith)
+locals ours why on.rel c h = unmoved ours why on.rel c refl (grind arith)
+locals ours why on.rlc c h = unmoved ours why on.rlc c refl (grind arith)
+locals ours Maintenance on.rsc c h = again_on Maintenance c c.local.maintenance
+locals ours Hardware on.rsc c h = again_on Hardware c c.local.hardware
+locals ours Maintenance on.grs c h = unmoved ours Maintenance on.grs c refl refl
+locals ours Hardware on.grs c h = grs_on c c.local.hardware
+locals ours why (on.blo Maintenance) c h = unmoved ours why (on.blo Maintenance) c refl refl
+locals ours why (on.blo Hardware) c h = unmoved ours why (on.blo Hardware) c refl refl
+locals ours why (on.ubl x) c h = unmoved ours why (on.ubl x) c refl refl
+locals ours Maintenance (on.bla Maintenance) c h = set_on Maintenance c c.local.maintenance
+locals ours Maintenance (on.bla Hardware) c h = unmoved ours Maintenance (on.bla Hardware) c refl refl
+locals ours Hardware (on.bla Maintenance) c h = unmoved ours Hardware (on.bla Maintenance) c refl refl
+locals ours Hardware (on.bla Hardware) c h = set_on Hardware c c.local.hardware
+locals ours Maintenance (on.uba Maintenance) c h = gone_on Maintenance c c.local.maintenance
+locals ours Maintenance (on.uba Hardware) c h = unmoved ours Maintenance (on.uba Hardware) c refl refl
+locals ours Hardware (on.uba Maintenance) c h = unmoved ours Hardware (on.uba Maintenance) c refl refl
+locals ours Hardware (on.uba Hardware) c h = gone_on Hardware c c.local.hardware
+locals ours why (on.gra bit) c h = unmoved ours why (on.gra bit) c refl (grind arith)
+locals ours why on.t5 c h = t5_on ours why c
+locals ours why on.nothing c h = unmoved ours why on.nothing c refl refl
 
 -- ## A far block
 
@@ -273,7 +279,7 @@ moves_reset c (on.gra bit) = is_group c.reset
 moves_reset c e = false
 
 reset_test : (c : Circuit) (e : Event) (x : Reset) → ResetMoves c e x → moves_reset c e ≡ true
-reset_test c _ _ says.waits_for_rlc = refl
+reset_test c _ _ (says.waits_for_rlc n) = refl
 reset_test c _ _ says.waits_for_gra = refl
 reset_test c _ _ (says.waits_after_t5 r) = rw r refl
 reset_test c _ _ (says.rlc_comes r) = rw r refl
@@ -316,28 +322,28 @@ reset_gra ours bit c = go c.reset
     go reset.Single = reset_stays ours (on.gra bit) (with_reset reset.Single c) refl refl
     go reset.Group = inl (says.gra_comes refl bit)
 
-resets : (ours : Bool) (e : Event) (c : Circuit) → ResetBecomes ours e c
-resets ours on.circuit_reset c = inl says.waits_for_rlc
-resets ours on.system_reset c = inl says.waits_for_gra
-resets ours on.t5 c = reset_t5 ours c
-resets ours on.rlc c = reset_rlc ours c
-resets ours (on.gra bit) c = reset_gra ours bit c
-resets ours on.seized c = reset_stays ours on.seized c refl refl
-resets ours (on.released cause) c = reset_stays ours (on.released cause) c refl refl
-resets ours (on.blocked Maintenance) c = reset_stays ours (on.blocked Maintenance) c refl refl
-resets ours (on.blocked Hardware) c = reset_stays ours (on.blocked Hardware) c refl refl
-resets ours (on.unblocked why) c = reset_stays ours (on.unblocked why) c refl refl
-resets ours on.iam c = reset_stays ours on.iam c refl (grind arith)
-resets ours on.progress c = reset_stays ours on.progress c refl (grind arith)
-resets ours on.rel c = reset_stays ours on.rel c refl (grind arith)
-resets ours on.rsc c = reset_stays ours on.rsc c refl refl
-resets ours on.grs c = reset_stays ours on.grs c refl refl
-resets ours (on.blo Maintenance) c = reset_stays ours (on.blo Maintenance) c refl refl
-resets ours (on.blo Hardware) c = reset_stays ours (on.blo Hardware) c refl refl
-resets ours (on.ubl why) c = reset_stays ours (on.ubl why) c refl refl
-resets ours (on.bla why) c = reset_stays ours (on.bla why) c refl refl
-resets ours (on.uba why) c = reset_stays ours (on.uba why) c refl refl
-resets ours on.nothing c = reset_stays ours on.nothing c refl refl
+resets : (ours : Bool) (e : Event) (c : Circuit) → may e c ≡ true → ResetBecomes ours e c
+resets ours on.circuit_reset c h = inl (says.waits_for_rlc (not_group c.reset h))
+resets ours on.system_reset c h = inl says.waits_for_gra
+resets ours on.t5 c h = reset_t5 ours c
+resets ours on.rlc c h = reset_rlc ours c
+resets ours (on.gra bit) c h = reset_gra ours bit c
+resets ours on.seized c h = reset_stays ours on.seized c refl refl
+resets ours (on.released cause) c h = reset_stays ours (on.released cause) c refl refl
+resets ours (on.blocked Maintenance) c h = reset_stays ours (on.blocked Maintenance) c refl refl
+resets ours (on.blocked Hardware) c h = reset_stays ours (on.blocked Hardware) c refl refl
+resets ours (on.unblocked why) c h = reset_stays ours (on.unblocked why) c refl refl
+resets ours on.iam c h = reset_stays ours on.iam c refl (grind arith)
+resets ours on.progress c h = reset_stays ours on.progress c refl (grind arith)
+resets ours on.rel c h = reset_stays ours on.rel c refl (grind arith)
+resets ours on.rsc c h = reset_stays ours on.rsc c refl refl
+resets ours on.grs c h = reset_stays ours on.grs c refl refl
+resets ours (on.blo Maintenance) c h = reset_stays ours (on.blo Maintenance) c refl refl
+resets ours (on.blo Hardware) c h = reset_stays ours (on.blo Hardware) c refl refl
+resets ours (on.ubl why) c h = reset_stays ours (on.ubl why) c refl refl
+resets ours (on.bla why) c h = reset_stays ours (on.bla why) c refl refl
+resets ours (on.uba why) c h = reset_stays ours (on.uba why) c refl refl
+resets ours on.nothing c h = reset_stays ours on.nothing c refl refl
 
-pub blocks : (ours : Bool) (e : Event) (c : Circuit) → BlocksMove ours e c (effect ours e c).circuit
-blocks ours e c = record { locals = λ why. locals ours why e c; fars = λ why. fars ours why e c; resets = resets ours e c }
+pub blocks : (ours : Bool) (e : Event) (c : Circuit) → may e c ≡ true → BlocksMove ours e c (effect ours e c).circuit
+blocks ours e c h = record { locals = λ why. locals ours why e c h; fars = λ why. fars ours why e c; resets = resets ours e c h }

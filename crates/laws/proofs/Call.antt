@@ -28,13 +28,13 @@ abbrev LivesOn : Bool → Cic → Event → Circuit → Type 0
 LivesOn ours cic e c = may e c ≡ true → Lives ours cic c e (told_of cic (effect ours e c)) (effect ours e c).circuit.call
 
 seizing : (ours : Bool) (cic : Cic) (c : Circuit) → LivesOn ours cic on.seized c
-seizing ours cic c = go c.call
-  where
-    go : (x : Call) → LivesOn ours cic on.seized (with_call x c)
-    go Idle h = says.seizes refl
-    go Calling h = absurd (grind arith)
-    go Talking h = absurd (grind arith)
-    go Releasing h = absurd (grind arith)
+seizing ours cic c h = says.seizes (record {
+  equipped = grind arith;
+  idle = grind arith;
+  no_reset = grind arith;
+  no_local = (grind arith, grind arith);
+  no_far = (grind arith, grind arith);
+})
 
 releasing : (ours : Bool) (cic : Cic) (cause : Cause) (c : Circuit) → LivesOn ours cic (on.released cause) c
 releasing ours cic cause c = go c.call

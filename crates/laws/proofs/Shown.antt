@@ -39,7 +39,7 @@ pub blocks_move : AllBlocksMove
 blocks_move t room o l m h k q =
     let ours = is_ours t.higher (t.first.0 + k) in
     subst (λ (d : Circuit). BlocksMove ours (event t.first.0 o k) (placed l.table k) d) (sym (after t room o l m h k q))
-    (blocks ours (event t.first.0 o k) (placed l.table k))
+    (blocks ours (event t.first.0 o k) (placed l.table k) (met t room o l m h k q).fit)
 
 pub sends_cut : SendsCut
 sends_cut t m table l = record { cuts = cuts_back t m table l; gapless = is_gapless t m table l; read = written_back }

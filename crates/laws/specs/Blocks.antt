@@ -32,11 +32,11 @@ pub data Clears (c : Circuit) : Event → Type 0 where
   by_system : Clears c on.system_reset
   by_timer : c.call ≡ Releasing → Clears c on.t5
 
--- where a local block of the type `why` moves
+-- where a local block of the type `why` moves; no order for it names a circuit with a waiting reset
 pub data LocalMoves (why : BlockType) (c : Circuit) : Event → LocalBlock → LocalBlock → Type 0 where
-  is_asked : (b : LocalBlock) → LocalMoves why c (on.blocked why) b local.Asked
+  is_asked : c.reset ≡ reset.None → (b : LocalBlock) → LocalMoves why c (on.blocked why) b local.Asked
   is_set : LocalMoves why c (on.bla why) local.Asked local.Set
-  is_lifted : (b : LocalBlock) → b ≢ local.None → LocalMoves why c (on.unblocked why) b local.Lifting
+  is_lifted : c.reset ≡ reset.None → (b : LocalBlock) → b ≢ local.None → LocalMoves why c (on.unblocked why) b local.Lifting
   is_gone : LocalMoves why c (on.uba why) local.Lifting local.None
   is_cleared : (e : Event) (b : LocalBlock) → Clears c e → LocalMoves why c e b local.None
   -- asked again where the far exchange says that it has none, or was reset; GRA shows a maintenance block to a GRS
@@ -57,7 +57,7 @@ pub data FarMoves (why : BlockType) (ours : Bool) (c : Circuit) : Event → Bool
 
 -- to what the waiting reset moves
 pub data ResetMoves (c : Circuit) : Event → Reset → Type 0 where
-  waits_for_rlc : ResetMoves c on.circuit_reset reset.Single
+  waits_for_rlc : c.reset ≢ reset.Group → ResetMoves c on.circuit_reset reset.Single
   waits_for_gra : ResetMoves c on.system_reset reset.Group
   waits_after_t5 : c.call ≡ Releasing → ResetMoves c on.t5 reset.Single
   rlc_comes : c.reset ≡ reset.Single → ResetMoves c on.rlc reset.None

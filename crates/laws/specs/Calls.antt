@@ -30,6 +30,14 @@ abbrev pub is_ours : Bool → ℕ → Bool
 is_ours true cic = cic % 2 == 0
 is_ours false cic = cic % 2 == 1
 
+-- equipped, idle, without a waiting reset and without any block
+pub record Open (c : Circuit) : Type 0 where
+  pub equipped : c.equipped ≡ true
+  pub idle : c.call ≡ Idle
+  pub no_reset : c.reset ≡ reset.None
+  pub no_local : (c.local.maintenance ≡ local.None) × (c.local.hardware ≡ local.None)
+  pub no_far : (c.far.maintenance ≡ false) × (c.far.hardware ≡ false)
+
 -- why an IAM does nothing
 pub data Barred (ours : Bool) (c : Circuit) : Type 0 where
   by_reset : c.reset ≢ reset.None → Barred ours c
@@ -72,8 +80,8 @@ pub data Untouched (ours : Bool) (c : Circuit) : Event → Type 0 where
 
 -- what becomes of the call of c, and what is told
 pub data Lives (ours : Bool) (cic : Cic) (c : Circuit) : Event → List Word → Call → Type 0 where
-  -- a call begins by a seizure, or by an IAM that is not barred
-  seizes : c.call ≡ Idle → Lives ours cic c on.seized (Begun Outgoing cic ∷ []) Calling
+  -- a call begins by a seizure of an open circuit, or by an IAM that is not barred
+  seizes : Open c → Lives ours cic c on.seized (Begun Outgoing cic ∷ []) Calling
   arrives : (Barred ours c → ⊥) → c.call ≡ Idle → Lives ours cic c on.iam (Begun Incoming cic ∷ []) Talking
   -- dual seizure: ours is ended, and theirs begins
   gives_way : (Barred ours c → ⊥) → c.call ≡ Calling → Lives ours cic c on.iam (Ended end.DualSeizure cic ∷ Begun Incoming cic ∷ []) Talking
