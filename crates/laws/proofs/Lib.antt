@@ -8,3 +8,4 @@ pub mod Block
 pub mod Name
 pub mod Send
 pub mod Expiry
+pub mod Words

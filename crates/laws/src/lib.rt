@@ -4,7 +4,7 @@
 ghost use Rattle.laws.specs.Blocks.{AllBlocksMove};
 ghost use Rattle.laws.specs.Calls.{CallsLive, CausesKept};
 ghost use Rattle.laws.specs.Naming.{StatusesTell, GroupsName};
-ghost use Rattle.laws.specs.Octets.{SendsCut};
+ghost use Rattle.laws.specs.Octets.{SendsCut, WordsFollow};
 ghost use Rattle.laws.specs.Sending.{OrdersSend, MessagesAnswered, ExpiriesRepeat};
 
 // How a call begins, goes on and ends, and what is told of it; and the cause that is kept of a release.
@@ -46,4 +46,9 @@ pub fn groups_name()
 // The words that are told cut the octets that are written into the messages that are meant.
 pub fn sends_cut()
     ensures { SendsCut }
+{}
+
+// Begun and ended words come first, by rising CIC, then the sends, then the alert.
+pub fn words_follow()
+    ensures { WordsFollow }
 {}
