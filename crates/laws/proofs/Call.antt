@@ -1,10 +1,10 @@
 -- The rules keep the life of a call.
-use Rattle.std.proofs.Common.{◌≡◌, ◌≢◌, Bool, true, false, [], ◌∷◌, ◌++◌, refl, inl, inr, arith}
+use Rattle.std.proofs.Common.{◌≡◌, ◌≢◌, Bool, true, false, cond, Some, None, [], ◌∷◌, ◌++◌, refl, inl, inr, arith}
 use Rattle.status.specs.declared.circuit.Cic.{Cic}
 use Rattle.message.specs.declared.kinds.BlockType.{BlockType}
 use Rattle.message.specs.declared.kinds.BlockType.TheVariants.{Maintenance, Hardware}
-use Rattle.circuit.specs.Changes.{with_call, with_reset, ended_if}
-use Rattle.circuit.specs.Circuits.{is_none, is_set, is_waiting}
+use Rattle.circuit.specs.Changes.{change, ended_if, quiet, with_call, with_fars, with_reset}
+use Rattle.circuit.specs.Circuits.{is_calling, no_far}
 use Rattle.circuit.specs.Laws.{told_of, end_word}
 use Rattle.circuit.specs.Signals.{passes_iam}
 use Rattle.circuit.specs.declared.record.Call.{Call}
@@ -15,6 +15,8 @@ use Rattle.circuit.specs.declared.record.Reset.{Reset}
 use Rattle.circuit.specs.declared.record.Reset.TheVariants as reset
 use Rattle.circuit.specs.declared.record.Circuit.{Circuit}
 use Rattle.circuit.specs.declared.record.Cause.{Cause}
+use Rattle.circuit.specs.declared.rules.Change.{Change}
+use Rattle.told.specs.declared.kinds.Direction.TheVariants.{Incoming}
 use Rattle.told.specs.declared.kinds.EndCause.{EndCause}
 use Rattle.told.specs.declared.kinds.EndCause.TheVariants as end
 use Rattle.told.specs.declared.kinds.Word.TheVariants.{Ended}
@@ -154,34 +156,21 @@ barred ours c h = go c.reset c.local.hardware c.local.maintenance c.call ours h
     go reset.None local.None local.Asked Idle o h = absurd (grind arith)
     go reset.None local.None local.Lifting Idle o h = absurd (grind arith)
 
--- it does nothing
-bar : (ours : Bool) (cic : Cic) (c : Circuit) → Barred ours c → Lives ours cic c on.iam [] c.call
-bar ours cic c b = says.goes_on on.iam (says.barred b)
-
--- where no block or reset stands against it
-reached : (ours : Bool) (cic : Cic) (c : Circuit) → is_waiting c.reset ≡ false → is_none c.local.hardware ≡ true → is_set c.local.maintenance ≡ false → LivesOn ours cic on.iam c
-reached ours cic c r w m = go ours c.call r w m
-  where
-    go : (o : Bool) (x : Call) → is_waiting c.reset ≡ false → is_none c.local.hardware ≡ true → is_set c.local.maintenance ≡ false → LivesOn o cic on.iam (with_call x c)
-    go o Idle r w m h = rw (r, w, m) (says.arrives (unbarred o (with_call Idle c) (rw (r, w, m) refl)) refl)
-    go true Calling r w m h = rw (r, w, m) (bar true cic (with_call Calling c) (by_control refl refl))
-    go false Calling r w m h = rw (r, w, m) (says.gives_way (unbarred false (with_call Calling c) (rw (r, w, m) refl)) refl)
-    go o Talking r w m h = rw (r, w, m) (bar o cic (with_call Talking c) (by_talking refl))
-    go o Releasing r w m h = rw (r, w, m) (bar o cic (with_call Releasing c) (by_releasing refl))
-
 arriving : (ours : Bool) (cic : Cic) (c : Circuit) → LivesOn ours cic on.iam c
-arriving ours cic c = go c.reset c.local.hardware c.local.maintenance
+arriving ours cic c h = go (passes_iam ours c) refl
   where
-    go : (r : Reset) (w m : LocalBlock) → LivesOn ours cic on.iam (standing r w m c)
-    go reset.Single w m h = bar ours cic (standing reset.Single w m c) (by_reset (λ e. grind arith))
-    go reset.Group w m h = bar ours cic (standing reset.Group w m c) (by_reset (λ e. grind arith))
-    go reset.None local.Asked m h = bar ours cic (standing reset.None local.Asked m c) (by_hardware_block (λ e. grind arith))
-    go reset.None local.Set m h = bar ours cic (standing reset.None local.Set m c) (by_hardware_block (λ e. grind arith))
-    go reset.None local.Lifting m h = bar ours cic (standing reset.None local.Lifting m c) (by_hardware_block (λ e. grind arith))
-    go reset.None local.None local.Set h = bar ours cic (standing reset.None local.None local.Set c) (by_maintenance_block refl)
-    go reset.None local.None local.None h = reached ours cic (standing reset.None local.None local.None c) refl refl refl h
-    go reset.None local.None local.Asked h = reached ours cic (standing reset.None local.None local.Asked c) refl refl refl h
-    go reset.None local.None local.Lifting h = reached ours cic (standing reset.None local.None local.Lifting c) refl refl refl h
+    begins : Call → Change
+    begins x = change (with_fars no_far (with_call Talking c)) (cond (is_calling x) (Some end.DualSeizure) None) (Some Incoming)
+
+    free : passes_iam ours c ≡ false → (x : Call) → c.call ≡ x → Lives ours cic c on.iam (told_of cic (begins x)) Talking
+    free e Idle q = says.arrives (unbarred ours c e) q
+    free e Calling q = says.gives_way (unbarred ours c e) q
+    free e Talking q = absurd (unbarred ours c e (by_talking q))
+    free e Releasing q = absurd (unbarred ours c e (by_releasing q))
+
+    go : (b : Bool) → passes_iam ours c ≡ b → Lives ours cic c on.iam (told_of cic (cond b (quiet c) (begins c.call))) (cond b (quiet c) (begins c.call)).circuit.call
+    go true e = says.goes_on on.iam (says.barred (barred ours c e))
+    go false e = free e c.call refl
 
 -- ## Every event
 
