@@ -9,3 +9,4 @@ pub mod Name
 pub mod Send
 pub mod Expiry
 pub mod Words
+pub mod Decide

@@ -7,9 +7,10 @@ use Rattle.supervision.specs.Lending.{Lent}
 use Rattle.supervision.specs.Moves.{Move, table_of}
 use Rattle.supervision.specs.Trunks.{cic_at, placed}
 use Rattle.supervision.specs.declared.trunk.Config.{Config}
+use Rattle.supervision.proofs.Naming.{unequipped}
 use Rattle.supervision.proofs.Keeping.{table_at, about-words}
 use Rattle.laws.specs.Blocks.{BlocksMove, AllBlocksMove}
-use Rattle.laws.specs.Calls.{CallsLive, CausesKept, is_ours}
+use Rattle.laws.specs.Calls.{CallsLive, CausesKept, UnequippedStay, is_ours}
 use Rattle.laws.specs.Events.{Operation, answered, event}
 use Rattle.laws.specs.Octets.{SendsCut}
 use Rattle.supervision.proofs.Cutting.{cuts_back, is_gapless}
@@ -43,3 +44,9 @@ blocks_move t room o l m h k q =
 
 pub sends_cut : SendsCut
 sends_cut t m table l = record { cuts = cuts_back t m table l; gapless = is_gapless t m table l; read = written_back }
+
+pub unequipped_stay : UnequippedStay
+unequipped_stay t m table k q =
+    let still = unequipped m.named m.rule k (placed table k) q in
+    (table_at m table k ∙ ap (λ (d : Change). d.circuit) still,
+    λ l. about-words t m table k l ∙ ap (told_of (cic_at t k)) still)

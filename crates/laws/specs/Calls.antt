@@ -1,5 +1,5 @@
 -- The life of a call: from which call, by which event, to which call, and what is told.
-use Rattle.std.specs.Prelude.{◌≡◌, ◌≢◌, ◌⊎◌, ℕ, ◌+◌, ◌%◌, Bool, true, false, List, [], ◌∷◌, Ok, ◌==◌}
+use Rattle.std.specs.Prelude.{◌≡◌, ◌≢◌, ◌⊎◌, ℕ, ◌+◌, ◌<◌, ◌%◌, Bool, true, false, List, [], ◌∷◌, length, Ok, ◌==◌}
 use Rattle.status.specs.declared.circuit.Cic.{Cic}
 use Rattle.message.specs.declared.kinds.BlockType.{BlockType}
 use Rattle.message.specs.declared.kinds.BlockType.TheVariants.{Maintenance, Hardware}
@@ -117,3 +117,13 @@ abbrev pub CausesKept : Type 0
 CausesKept = (t : Config) (room : ℕ) (o : Operation) (lent : Lent) (m : Move) → answered t room o lent ≡ Ok m
     → (k : ℕ) → (placed lent.table k).equipped ≡ true
     → Keeps (placed lent.table k) (event t.first.0 o k) (placed (table_of m lent.table) k).cause
+
+-- what is said decides: one event has one outcome
+abbrev pub CallsDecided : Type 0
+CallsDecided = (ours : Bool) (cic : Cic) (c : Circuit) (e : Event) (told told' : List Word) (call call' : Call)
+    → Lives ours cic c e told call → Lives ours cic c e told' call' → (told ≡ told') × (call ≡ call')
+
+-- a place that is not equipped stays as it is, and nothing is told of it
+abbrev pub UnequippedStay : Type 0
+UnequippedStay = (t : Config) (m : Move) (table : List Circuit) (k : ℕ) → (placed table k).equipped ≡ false
+    → (placed (table_of m table) k ≡ placed table k) × (k < length table → about (t.first.0 + k) (words_of t m table) ≡ [])

@@ -2,7 +2,7 @@
 #![tactic(auto)]
 
 ghost use Rattle.laws.specs.Blocks.{AllBlocksMove};
-ghost use Rattle.laws.specs.Calls.{CallsLive, CausesKept};
+ghost use Rattle.laws.specs.Calls.{CallsLive, CallsDecided, CausesKept, UnequippedStay};
 ghost use Rattle.laws.specs.Naming.{StatusesTell, GroupsName};
 ghost use Rattle.laws.specs.Octets.{SendsCut, WordsFollow};
 ghost use Rattle.laws.specs.Sending.{OrdersSend, MessagesAnswered, ExpiriesRepeat};
@@ -10,7 +10,9 @@ ghost use Rattle.laws.specs.Sending.{OrdersSend, MessagesAnswered, ExpiriesRepea
 // How a call begins, goes on and ends, and what is told of it; and the cause that is kept of a release.
 pub fn calls_live()
     ensures life { CallsLive }
+    ensures decided { CallsDecided }
     ensures cause { CausesKept }
+    ensures unequipped { UnequippedStay }
 {}
 
 // How the blocks of either side and a waiting reset move, by single messages and by group messages alike.
