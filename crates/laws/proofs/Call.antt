@@ -22,7 +22,7 @@ use Rattle.told.specs.declared.kinds.EndCause.TheVariants as end
 use Rattle.told.specs.declared.kinds.Word.TheVariants.{Ended}
 use Rattle.laws.specs.Events as on
 use Rattle.laws.specs.Events.{Event}
-use Rattle.laws.specs.Calls.{Connected, Barred, by_reset, by_hardware_block, by_maintenance_block, by_talking, by_releasing, by_control, Resets, Severs, Lives, Untouched}
+use Rattle.laws.specs.Calls.{Connected, Barred, by_reset, by_hardware_block, by_maintenance_block, by_talking, by_releasing, by_control, Resets, HardwareBlocks, Lives, Untouched}
 use Rattle.laws.specs.Calls as says
 use Rattle.laws.proofs.Effect.{effect, may}
 
@@ -71,12 +71,12 @@ completing ours cic c = go c.reset c.call
     go : (r : Reset) (x : Call) → LivesOn ours cic on.rlc (with_reset r (with_call x c))
     go reset.Single x h = says.goes_on on.rlc (says.of_reset refl)
     go reset.None Idle h = says.goes_on on.rlc (says.of_idle refl)
-    go reset.None Calling h = says.is_surprised (inl refl) (λ e. grind arith)
-    go reset.None Talking h = says.is_surprised (inr refl) (λ e. grind arith)
+    go reset.None Calling h = says.is_unexpected (inl refl) (λ e. grind arith)
+    go reset.None Talking h = says.is_unexpected (inr refl) (λ e. grind arith)
     go reset.None Releasing h = says.completes refl (λ e. grind arith)
     go reset.Group Idle h = says.goes_on on.rlc (says.of_idle refl)
-    go reset.Group Calling h = says.is_surprised (inl refl) (λ e. grind arith)
-    go reset.Group Talking h = says.is_surprised (inr refl) (λ e. grind arith)
+    go reset.Group Calling h = says.is_unexpected (inl refl) (λ e. grind arith)
+    go reset.Group Talking h = says.is_unexpected (inr refl) (λ e. grind arith)
     go reset.Group Releasing h = says.completes refl (λ e. grind arith)
 
 giving_up : (ours : Bool) (cic : Cic) (c : Circuit) → LivesOn ours cic on.t5 c
@@ -104,16 +104,16 @@ ended_by ours cic e cause c = go c.call
 reset_by : (ours : Bool) (cic : Cic) (e : Event) (c : Circuit) → Resets e → Lives ours cic c e (end_word cic (ended_if end.Reset c.call) ++ []) Idle
 reset_by ours cic e c w = ended_by ours cic e end.Reset c (λ n. says.is_reset n e w) (λ i. says.goes_on e (says.not_reset i e w))
 
-severed_by : (ours : Bool) (cic : Cic) (e : Event) (c : Circuit) → Severs e → Lives ours cic c e (end_word cic (ended_if end.HardwareBlock c.call) ++ []) Idle
-severed_by ours cic e c w = ended_by ours cic e end.HardwareBlock c (λ n. says.is_severed n e w) (λ i. says.goes_on e (says.not_severed i e w))
+blocked_by : (ours : Bool) (cic : Cic) (e : Event) (c : Circuit) → HardwareBlocks e → Lives ours cic c e (end_word cic (ended_if end.HardwareBlock c.call) ++ []) Idle
+blocked_by ours cic e c w = ended_by ours cic e end.HardwareBlock c (λ n. says.is_blocked n e w) (λ i. says.goes_on e (says.not_blocked i e w))
 
 blocking : (ours : Bool) (cic : Cic) (why : BlockType) (c : Circuit) → LivesOn ours cic (on.blocked why) c
 blocking ours cic Maintenance c h = says.goes_on (on.blocked Maintenance) says.blocked
-blocking ours cic Hardware c h = severed_by ours cic (on.blocked Hardware) c says.hardware_blocked
+blocking ours cic Hardware c h = blocked_by ours cic (on.blocked Hardware) c says.hardware_blocked
 
 far_blocking : (ours : Bool) (cic : Cic) (why : BlockType) (c : Circuit) → LivesOn ours cic (on.blo why) c
 far_blocking ours cic Maintenance c h = says.goes_on (on.blo Maintenance) says.blo
-far_blocking ours cic Hardware c h = severed_by ours cic (on.blo Hardware) c says.hardware_blo
+far_blocking ours cic Hardware c h = blocked_by ours cic (on.blo Hardware) c says.hardware_blo
 
 noting : (ours : Bool) (cic : Cic) (bit : Bool) (c : Circuit) → LivesOn ours cic (on.gra bit) c
 noting ours cic bit c = go c.reset

@@ -44,8 +44,8 @@ untouched ours cic c _ (says.not_reset i _ says.circuit_reset) = record { tells 
 untouched ours cic c _ (says.not_reset i _ says.system_reset) = record { tells = grind arith; leaves = grind arith }
 untouched ours cic c _ (says.not_reset i _ says.rsc) = record { tells = grind arith; leaves = grind arith }
 untouched ours cic c _ (says.not_reset i _ says.grs) = record { tells = grind arith; leaves = grind arith }
-untouched ours cic c _ (says.not_severed i _ says.hardware_blocked) = record { tells = grind arith; leaves = grind arith }
-untouched ours cic c _ (says.not_severed i _ says.hardware_blo) = record { tells = grind arith; leaves = grind arith }
+untouched ours cic c _ (says.not_blocked i _ says.hardware_blocked) = record { tells = grind arith; leaves = grind arith }
+untouched ours cic c _ (says.not_blocked i _ says.hardware_blo) = record { tells = grind arith; leaves = grind arith }
 untouched ours cic c _ (says.not_given_up n) = record { tells = grind arith; leaves = grind arith }
 untouched ours cic c _ says.blocked = record { tells = refl; leaves = refl }
 untouched ours cic c _ (says.unblocked why) = record { tells = refl; leaves = refl }
@@ -70,8 +70,8 @@ is ours cic c _ _ _ (says.arrives n i) = let p = arrives ours c n in record { te
 is ours cic c _ _ _ (says.gives_way n i) = let p = arrives ours c n in record { tells = rw (p, i) refl; leaves = rw p refl }
 is ours cic c _ _ _ (says.progresses i) = record { tells = rw i refl; leaves = rw i refl }
 is ours cic c _ _ _ (says.releases w cause) = record { tells = refl; leaves = refl }
-is ours cic c _ _ _ (says.is_surprised (inl i) n) = record { tells = grind arith; leaves = grind arith }
-is ours cic c _ _ _ (says.is_surprised (inr i) n) = record { tells = grind arith; leaves = grind arith }
+is ours cic c _ _ _ (says.is_unexpected (inl i) n) = record { tells = grind arith; leaves = grind arith }
+is ours cic c _ _ _ (says.is_unexpected (inr i) n) = record { tells = grind arith; leaves = grind arith }
 is ours cic c _ _ _ (says.is_released (inl i)) = record { tells = rw i refl; leaves = rw i refl }
 is ours cic c _ _ _ (says.is_released (inr i)) = record { tells = rw i refl; leaves = rw i refl }
 is ours cic c _ _ _ (says.completes i n) = record { tells = grind arith; leaves = grind arith }
@@ -80,8 +80,8 @@ is ours cic c _ _ _ (says.is_reset n _ says.system_reset) = record { tells = gri
 is ours cic c _ _ _ (says.is_reset n _ says.rsc) = record { tells = grind arith; leaves = refl }
 is ours cic c _ _ _ (says.is_reset n _ says.grs) = record { tells = grind arith; leaves = refl }
 is ours cic c _ _ _ (says.is_given_up i) = record { tells = rw i refl; leaves = rw i refl }
-is ours cic c _ _ _ (says.is_severed n _ says.hardware_blocked) = record { tells = grind arith; leaves = refl }
-is ours cic c _ _ _ (says.is_severed n _ says.hardware_blo) = record { tells = grind arith; leaves = refl }
+is ours cic c _ _ _ (says.is_blocked n _ says.hardware_blocked) = record { tells = grind arith; leaves = refl }
+is ours cic c _ _ _ (says.is_blocked n _ says.hardware_blo) = record { tells = grind arith; leaves = refl }
 is ours cic c _ _ _ (says.goes_on e u) = untouched ours cic c e u
 
 pub calls_decided : CallsDecided

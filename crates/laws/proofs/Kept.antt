@@ -7,7 +7,7 @@ use Rattle.circuit.specs.declared.record.Call.TheVariants.{Idle, Calling, Talkin
 use Rattle.circuit.specs.declared.record.Circuit.{Circuit}
 use Rattle.circuit.specs.declared.record.Reset.{Reset}
 use Rattle.circuit.specs.declared.record.Reset.TheVariants as reset
-use Rattle.laws.specs.Calls.{Keeps, of_release, of_surprise, of_rlc, of_others}
+use Rattle.laws.specs.Calls.{Keeps, of_release, of_unexpected, of_rlc, of_others}
 use Rattle.laws.specs.Events as on
 use Rattle.laws.specs.Events.{Event}
 use Rattle.laws.proofs.Effect.{effect}
@@ -25,12 +25,12 @@ completing ours c = go c.reset c.call
     go : (r : Reset) (x : Call) → KeepsOn ours on.rlc (with_reset r (with_call x c))
     go reset.Single x = of_rlc (λ w. refl)
     go reset.None Idle = of_rlc (⊎_elim (λ e. absurd (grind arith)) (λ e. absurd (grind arith)))
-    go reset.None Calling = of_surprise (inl refl) (λ e. grind arith)
-    go reset.None Talking = of_surprise (inr refl) (λ e. grind arith)
+    go reset.None Calling = of_unexpected (inl refl) (λ e. grind arith)
+    go reset.None Talking = of_unexpected (inr refl) (λ e. grind arith)
     go reset.None Releasing = of_rlc (⊎_elim (λ e. absurd (grind arith)) (λ e. absurd (grind arith)))
     go reset.Group Idle = of_rlc (⊎_elim (λ e. absurd (grind arith)) (λ e. absurd (grind arith)))
-    go reset.Group Calling = of_surprise (inl refl) (λ e. grind arith)
-    go reset.Group Talking = of_surprise (inr refl) (λ e. grind arith)
+    go reset.Group Calling = of_unexpected (inl refl) (λ e. grind arith)
+    go reset.Group Talking = of_unexpected (inr refl) (λ e. grind arith)
     go reset.Group Releasing = of_rlc (⊎_elim (λ e. absurd (grind arith)) (λ e. absurd (grind arith)))
 
 pub keeps : (ours : Bool) (e : Event) (c : Circuit) → KeepsOn ours e c

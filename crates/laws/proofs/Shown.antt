@@ -47,6 +47,7 @@ sends_cut t m table l = record { cuts = cuts_back t m table l; gapless = is_gapl
 
 pub unequipped_stay : UnequippedStay
 unequipped_stay t m table k q =
-    let still = unequipped m.named m.rule k (placed table k) q in
-    (table_at m table k ∙ ap (λ (d : Change). d.circuit) still,
-    λ l. about-words t m table k l ∙ ap (told_of (cic_at t k)) still)
+    let still = unequipped m.named m.rule k (placed table k) q in (
+      table_at m table k ∙ ap (λ (d : Change). d.circuit) still,
+      λ l. about-words t m table k l ∙ ap (told_of (cic_at t k)) still,
+    )

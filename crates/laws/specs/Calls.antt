@@ -55,9 +55,9 @@ pub data Resets : Event → Type 0 where
   grs : Resets on.grs
 
 -- a hardware block of either side
-pub data Severs : Event → Type 0 where
-  hardware_blocked : Severs (on.blocked Hardware)
-  hardware_blo : Severs (on.blo Hardware)
+pub data HardwareBlocks : Event → Type 0 where
+  hardware_blocked : HardwareBlocks (on.blocked Hardware)
+  hardware_blo : HardwareBlocks (on.blo Hardware)
 
 -- an event that leaves the call as it is
 pub data Untouched (ours : Bool) (c : Circuit) : Event → Type 0 where
@@ -67,7 +67,7 @@ pub data Untouched (ours : Bool) (c : Circuit) : Event → Type 0 where
   of_reset : c.reset ≡ reset.Single → Untouched ours c on.rlc
   of_idle : c.call ≡ Idle → Untouched ours c on.rlc
   not_reset : c.call ≡ Idle → (e : Event) → Resets e → Untouched ours c e
-  not_severed : c.call ≡ Idle → (e : Event) → Severs e → Untouched ours c e
+  not_blocked : c.call ≡ Idle → (e : Event) → HardwareBlocks e → Untouched ours c e
   not_given_up : c.call ≢ Releasing → Untouched ours c on.t5
   blocked : Untouched ours c (on.blocked Maintenance)
   unblocked : (why : BlockType) → Untouched ours c (on.unblocked why)
@@ -89,20 +89,20 @@ pub data Lives (ours : Bool) (cic : Cic) (c : Circuit) : Event → List Word →
   progresses : c.call ≡ Calling → Lives ours cic c on.progress [] Talking
   -- we release, or answer an RLC that nothing waits for by a release
   releases : Connected c.call → (cause : Cause) → Lives ours cic c (on.released cause) [] Releasing
-  is_surprised : Connected c.call → c.reset ≢ reset.Single → Lives ours cic c on.rlc [] Releasing
+  is_unexpected : Connected c.call → c.reset ≢ reset.Single → Lives ours cic c on.rlc [] Releasing
   -- a call ends, by its cause
   is_released : Connected c.call → Lives ours cic c on.rel (Ended end.ReleaseReceived cic ∷ []) Idle
   completes : c.call ≡ Releasing → c.reset ≢ reset.Single → Lives ours cic c on.rlc (Ended end.ReleaseComplete cic ∷ []) Idle
   is_reset : c.call ≢ Idle → (e : Event) → Resets e → Lives ours cic c e (Ended end.Reset cic ∷ []) Idle
   is_given_up : c.call ≡ Releasing → Lives ours cic c on.t5 (Ended end.Reset cic ∷ []) Idle
-  is_severed : c.call ≢ Idle → (e : Event) → Severs e → Lives ours cic c e (Ended end.HardwareBlock cic ∷ []) Idle
+  is_blocked : c.call ≢ Idle → (e : Event) → HardwareBlocks e → Lives ours cic c e (Ended end.HardwareBlock cic ∷ []) Idle
   -- nothing else touches a call
   goes_on : (e : Event) → Untouched ours c e → Lives ours cic c e [] c.call
 
 -- the cause that is kept changes only by our release, ordered or in answer to an unexpected RLC, to what is sent
 pub data Keeps (c : Circuit) : Event → Cause → Type 0 where
   of_release : (cause : Cause) → Keeps c (on.released cause) cause
-  of_surprise : Connected c.call → c.reset ≢ reset.Single → Keeps c on.rlc (record { location = 0x87; value = 0x9f })
+  of_unexpected : Connected c.call → c.reset ≢ reset.Single → Keeps c on.rlc (record { location = 0x87; value = 0x9f })
   of_rlc : (Connected c.call → c.reset ≡ reset.Single) → Keeps c on.rlc c.cause
   of_others : (e : Event) → e ≢ on.rlc → ((cause : Cause) → e ≢ on.released cause) → Keeps c e c.cause
 
