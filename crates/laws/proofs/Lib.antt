@@ -10,3 +10,4 @@ pub mod Send
 pub mod Expiry
 pub mod Words
 pub mod Decide
+pub mod Address

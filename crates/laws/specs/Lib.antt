@@ -1,3 +1,4 @@
+pub mod Addressing
 pub mod Blocks
 pub mod Calls
 pub mod Events

@@ -1,6 +1,7 @@
 // Laws of supervision, shown of its definitions: what every accepted operation does, in the words of the subject.
 #![tactic(auto)]
 
+ghost use Rattle.laws.specs.Addressing.{MessagesAccepted};
 ghost use Rattle.laws.specs.Blocks.{AllBlocksMove};
 ghost use Rattle.laws.specs.Calls.{CallsLive, CallsDecided, CausesKept, UnequippedStay};
 ghost use Rattle.laws.specs.Naming.{StatusesTell, GroupsName};
@@ -23,6 +24,11 @@ pub fn blocks_move()
 // What our orders send.
 pub fn orders_send()
     ensures { OrdersSend }
+{}
+
+// A message is accepted exactly where the circuits that it names are circuits of the table.
+pub fn messages_accepted()
+    ensures { MessagesAccepted }
 {}
 
 // What is answered to each message of the far exchange.
