@@ -32,13 +32,19 @@ passing : (b : Bool) (m : Move) → Exactly (is_ok (unless (not b) Address (Ok m
 passing true m = (λ h. refl, λ h. refl)
 passing false m = (λ h. absurd (false≢true h), λ h. absurd (false≢true h))
 
+-- the circuit of a CIC is there
+pub one_is : (t : Config) (c : ℕ) (T : List Circuit) → Exactly ((circuit_of t (as_cic c) T).equipped ≡ true) (IsCircuit t T c)
+one_is t c T =
+    let x = circuit_of t (as_cic c) T in
+    (λ h. (not_below t (as_cic c) T h, sym (ap (λ (y : Circuit). y.equipped) (at_place t (as_cic c) T h)) ∙ h),
+    λ w. let b : leb t.first.0 c ≡ true = le-leb t.first.0 c w.0 in rw b w.1)
+
 one_accepted : (t : Config) (c : ℕ) (T : List Circuit) (m : Move)
     → Exactly (is_ok (unless (not (circuit_of t (as_cic c) T).equipped) Address (Ok m)) ≡ true) (IsCircuit t T c)
 one_accepted t c T m =
-    let x = circuit_of t (as_cic c) T in
-    let p = passing x.equipped m in
-    (λ h. (not_below t (as_cic c) T (p.0 h), sym (ap (λ (y : Circuit). y.equipped) (at_place t (as_cic c) T (p.0 h))) ∙ p.0 h),
-    λ w. p.1 (let b : leb t.first.0 c ≡ true = le-leb t.first.0 c w.0 in rw b w.1))
+    let i = one_is t c T in
+    let p = passing (circuit_of t (as_cic c) T).equipped m in
+    (λ h. i.0 (p.0 h), λ w. p.1 (i.1 w))
 
 is_in : (t : Config) (c r : ℕ) → Exactly (is_range t c r ≡ true) (IsRange t c r)
 is_in t c r = (
@@ -124,7 +130,7 @@ heard_accepted t (group_reset c r) T size = reset_accepted t c r _ T size
 heard_accepted t (group_reset_ack c r s) T size = range_accepted t c r s _ T size
 
 -- where enough is lent nothing is refused before the message is read
-admits : (t : Config) (room : ℕ) (l : Lent) → Suffices t room l → admitted t room l ≡ Ok tt
+pub admits : (t : Config) (room : ℕ) (l : Lent) → Suffices t room l → admitted t room l ≡ Ok tt
 admits t room l s =
     let a : ltb room (length l.table) ≡ false = high room (length l.table) s.places in
     let b : eqb (length l.table) (places t) ≡ true = eq-eqb (length l.table) (places t) s.table in

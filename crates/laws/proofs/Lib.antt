@@ -11,3 +11,4 @@ pub mod Expiry
 pub mod Words
 pub mod Decide
 pub mod Address
+pub mod Accept

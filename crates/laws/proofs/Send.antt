@@ -181,7 +181,7 @@ both_said false b x y = (λ h. absurd (false≢true h), λ w. absurd (false≢tr
 pub itself : (b : Bool) → Exactly (b ≡ true) (b ≡ true)
 itself b = (λ h. h, λ h. h)
 
-connected_said : (x : Call) → Exactly (is_connected x ≡ true) (Connected x)
+pub connected_said : (x : Call) → Exactly (is_connected x ≡ true) (Connected x)
 connected_said Idle = (λ h. absurd (false≢true h), ⊎_elim (λ e. absurd (grind arith)) (λ e. absurd (grind arith)))
 connected_said Calling = (λ h. inl refl, λ s. refl)
 connected_said Talking = (λ h. inr refl, λ s. refl)

@@ -1,14 +1,19 @@
--- Which messages are accepted: those whose circuits the table has.
-use Rattle.std.specs.Prelude.{◌≡◌, ℕ, ◌+◌, ◌-◌, ◌*◌, ◌<◌, ◌≤◌, true, List, is_ok, Ok}
+-- Which messages and orders are accepted.
+use Rattle.std.specs.Prelude.{◌≡◌, ◌≢◌, ℕ, ◌+◌, ◌-◌, ◌*◌, ◌%◌, ◌<◌, ◌≤◌, true, List, length, is_ok, Some, None, Ok}
 use Rattle.status.specs.Bits.{is_named}
 use Rattle.message.specs.Decode.{decode}
 use Rattle.message.specs.Laws.{Exactly}
 use Rattle.message.specs.Msg.{Msg, single, release_complete, group_reset, group_reset_ack, grouped, release, call}
 use Rattle.circuit.specs.declared.record.Circuit.{Circuit}
+use Rattle.circuit.specs.declared.record.Reset.TheVariants as reset
+use Rattle.supervision.specs.Answering as of
+use Rattle.supervision.specs.Answering.{Order, answer}
 use Rattle.supervision.specs.Lending.{Lent, Suffices}
 use Rattle.supervision.specs.Receiving.{receiving}
 use Rattle.supervision.specs.Trunks.{placed}
 use Rattle.supervision.specs.declared.trunk.Config.{Config}
+use Rattle.laws.specs.Calls.{Connected, Open}
+use Rattle.laws.specs.Events.{in_mask}
 
 -- the CIC is that of a circuit
 abbrev pub IsCircuit : Config → List Circuit → ℕ → Type 0
@@ -35,3 +40,28 @@ Addressed t T (group_reset_ack c r s) = IsNamed t T c r s
 abbrev pub MessagesAccepted : Type 0
 MessagesAccepted = (t : Config) (room : ℕ) (octets : List ℕ) (lent : Lent) (message : Msg) → Suffices t room lent → decode octets ≡ Ok message
     → Exactly (is_ok (receiving t room octets lent) ≡ true) (Addressed t lent.table message)
+
+-- each time slot of a mask is a circuit without a waiting reset; time slot 0 is none
+pub record IsMask (t : Config) (T : List Circuit) (system mask : ℕ) : Type 0 where
+  pub inside : system < t.systems
+  pub even : mask % 2 ≢ 1
+  pub circuits : (k : ℕ) → k < length T → in_mask system mask k ≡ true → (placed T k).equipped ≡ true
+  pub no_resets : (k : ℕ) → k < length T → in_mask system mask k ≡ true → (placed T k).reset ≡ reset.None
+
+abbrev pub Acceptable : Config → List Circuit → Order → Type 0
+-- the policy chose a circuit that is open
+Acceptable t T (of.seize body None) = ⊥
+Acceptable t T (of.seize body (Some place)) = ((1 ≤ length body) × (length body ≤ 256)) × Open (placed T place.0)
+Acceptable t T (of.release cic location value) =
+    ((location ≤ 15) × (value ≤ 127)) × (IsCircuit t T cic.0 × Connected (placed T (cic.0 - t.first.0)).call)
+Acceptable t T (of.block cic) = IsCircuit t T cic.0 × ((placed T (cic.0 - t.first.0)).reset ≡ reset.None)
+Acceptable t T (of.unblock cic) = IsCircuit t T cic.0 × ((placed T (cic.0 - t.first.0)).reset ≡ reset.None)
+Acceptable t T (of.reset cic) = IsCircuit t T cic.0 × ((placed T (cic.0 - t.first.0)).reset ≢ reset.Group)
+Acceptable t T (of.group_block kind system mask) = ((kind ≤ 1) × (mask ≢ 0)) × IsMask t T system mask
+Acceptable t T (of.group_unblock kind system mask) = ((kind ≤ 1) × (mask ≢ 0)) × IsMask t T system mask
+Acceptable t T (of.group_reset system) = system < t.systems
+
+-- where enough is lent, an order is accepted exactly if it is acceptable
+abbrev pub OrdersAccepted : Type 0
+OrdersAccepted = (t : Config) (room : ℕ) (o : Order) (lent : Lent) → Suffices t room lent
+    → Exactly (is_ok (answer t room o lent) ≡ true) (Acceptable t lent.table o)

@@ -1,7 +1,7 @@
 // Laws of supervision, shown of its definitions: what every accepted operation does, in the words of the subject.
 #![tactic(auto)]
 
-ghost use Rattle.laws.specs.Addressing.{MessagesAccepted};
+ghost use Rattle.laws.specs.Addressing.{MessagesAccepted, OrdersAccepted};
 ghost use Rattle.laws.specs.Blocks.{AllBlocksMove};
 ghost use Rattle.laws.specs.Calls.{CallsLive, CallsDecided, CausesKept, UnequippedStay};
 ghost use Rattle.laws.specs.Naming.{StatusesTell, GroupsName};
@@ -24,6 +24,11 @@ pub fn blocks_move()
 // What our orders send.
 pub fn orders_send()
     ensures { OrdersSend }
+{}
+
+// An order is accepted exactly where its arguments, its circuits and their states allow it.
+pub fn orders_accepted()
+    ensures { OrdersAccepted }
 {}
 
 // A message is accepted exactly where the circuits that it names are circuits of the table.
