@@ -1,25 +1,22 @@
 -- A message is accepted exactly where it is addressed to circuits of the table.
-use Rattle.std.proofs.Common.{◌≡◌, ℕ, ◌+◌, ◌-◌, ◌*◌, ◌%◌, ◌^◌, ◌<◌, ◌≤◌, Bool, true, false, not, ◌&&◌, ◌||◌, cond, eqb, ltb, leb, List, [], length, is_ok, Ok, Err, Result, sym, refl, ap, ◌∙◌, arith}
+use Rattle.std.proofs.Common.{◌≡◌, ℕ, ◌+◌, ◌-◌, ◌*◌, ◌%◌, ◌^◌, ◌<◌, ◌≤◌, Bool, true, false, not, ◌&&◌, eqb, ltb, leb, List, [], length, is_ok, Ok, sym, refl, ap, ◌∙◌, arith}
 use native.Mathlib.Nat.{zero-div}
-use Rattle.std.proofs.lemmas.Bool.{and_left, and_parts, and_right, eq-eqb, false≢true, le-leb, leb-true, lt-ltb}
+use Rattle.std.proofs.lemmas.Bool.{and_parts, and_right, eq-eqb, false≢true, le-leb, leb-true, lt-ltb}
 use Rattle.std.proofs.lemmas.Bool.Decides.{nat_tests}
 use Rattle.status.specs.Bits.{is_named, bit_at}
-use Rattle.status.specs.declared.circuit.Cic.{Cic}
-use Rattle.message.specs.Decode.{decode}
 use Rattle.message.specs.Laws.{Exactly}
 use Rattle.message.specs.Msg.{Msg, single, release_complete, group_reset, group_reset_ack, grouped, release, call}
 use Rattle.message.specs.declared.kinds.CallKind.TheVariants.{Iam, Acm, Con, Anm, Cpg}
 use Rattle.message.specs.declared.kinds.Grouped.TheVariants.{Cgb, Cgu, Cgba, Cgua}
 use Rattle.message.specs.declared.kinds.Single.TheVariants.{Rsc, Blo, Ubl, Bla, Uba}
 use Rattle.circuit.specs.declared.record.Circuit.{Circuit}
-use Rattle.refusal.specs.declared.reasons.Refusal.{Refusal}
 use Rattle.refusal.specs.declared.reasons.Refusal.TheVariants.{Address}
-use Rattle.refusal.specs.Refusals.{raised, unless, and_then}
+use Rattle.refusal.specs.Refusals.{unless}
 use Rattle.supervision.specs.Lending.{Lent, Suffices}
 use Rattle.supervision.specs.Moves.{Move, some_from}
 use Rattle.supervision.specs.Orders.{admitted, circuit_of}
-use Rattle.supervision.specs.Receiving.{as_cic, is_range, marked, to_range, heard, receiving}
-use Rattle.supervision.specs.Trunks.{places, placed, covers}
+use Rattle.supervision.specs.Receiving.{as_cic, is_range, marked, to_range, heard}
+use Rattle.supervision.specs.Trunks.{places, placed}
 use Rattle.supervision.specs.declared.trunk.Config.{Config}
 use Rattle.supervision.proofs.Allowing.{at_place}
 use Rattle.supervision.proofs.Naming.{covers_in}
@@ -35,9 +32,10 @@ passing false m = (λ h. absurd (false≢true h), λ h. absurd (false≢true h))
 -- the circuit of a CIC is there
 pub one_is : (t : Config) (c : ℕ) (T : List Circuit) → Exactly ((circuit_of t (as_cic c) T).equipped ≡ true) (IsCircuit t T c)
 one_is t c T =
-    let x = circuit_of t (as_cic c) T in
-    (λ h. (not_below t (as_cic c) T h, sym (ap (λ (y : Circuit). y.equipped) (at_place t (as_cic c) T h)) ∙ h),
-    λ w. let b : leb t.first.0 c ≡ true = le-leb t.first.0 c w.0 in rw b w.1)
+    let x = circuit_of t (as_cic c) T in (
+      λ h. (not_below t (as_cic c) T h, sym (ap (λ (y : Circuit). y.equipped) (at_place t (as_cic c) T h)) ∙ h),
+      λ w. let b : leb t.first.0 c ≡ true = le-leb t.first.0 c w.0 in rw b w.1,
+    )
 
 one_accepted : (t : Config) (c : ℕ) (T : List Circuit) (m : Move)
     → Exactly (is_ok (unless (not (circuit_of t (as_cic c) T).equipped) Address (Ok m)) ≡ true) (IsCircuit t T c)
@@ -71,21 +69,25 @@ range_accepted t c r s m T size =
     let first = c - t.first.0 in
     let p = λ (k : ℕ) (y : Circuit). marked t c r s k && not y.equipped in
     let w = both_pass (is_range t c r) (some_from p 0 T) m in
-    let i = is_in t c r in
-    (λ h.
-    let at = i.0 (w.0 h).0 in
-    (at,
-    λ n q.
-    let l = leb-true n r (and_parts (leb n r) (eqb (bit_at s n) 1) q).0 in
-    let k : first + n < length T = inside c t.first.0 r n (t.systems * 32) (length T) at.0 at.1 l size in
-    equipped (marked t c r s (first + n)) (placed T (first + n)).equipped (none_at p T (first + n) k (w.0 h).1) (covers_in first r s n ∙ q)),
-    λ x. w.1 (i.1 x.0,
-    none p T (λ j l. names (marked t c r s j) (placed T j).equipped
-    (λ e.
-    let parts = and_parts (leb first j) (is_named r s (j - first)) e in
-    let b = leb-true first j parts.0 in
-    let z : first + (j - first) ≡ j = omega (arith, b) in
-    rw z at (x.1 (j - first) parts.1)))))
+    let i = is_in t c r in (
+      λ h.
+          let at = i.0 (w.0 h).0 in (
+            at,
+            λ n q.
+                let l = leb-true n r (and_parts (leb n r) (eqb (bit_at s n) 1) q).0 in
+                let k : first + n < length T = inside c t.first.0 r n (t.systems * 32) (length T) at.0 at.1 l size in
+                equipped (marked t c r s (first + n)) (placed T (first + n)).equipped (none_at p T (first + n) k (w.0 h).1) (covers_in first r s n ∙ q),
+          ),
+      λ x. w.1 (
+        i.1 x.0,
+        none p T (λ j l. names (marked t c r s j) (placed T j).equipped
+            (λ e.
+            let parts = and_parts (leb first j) (is_named r s (j - first)) e in
+            let b = leb-true first j parts.0 in
+            let z : first + (j - first) ≡ j = omega (arith, b) in
+            rw z at (x.1 (j - first) parts.1))),
+      ),
+    )
   where
     inside : (c f r n size len : ℕ) → f ≤ c → c + r < f + size → n ≤ r → len ≡ size → c - f + n < len
     inside c f r n size len a b d e = omega (arith, a, b, d, e)

@@ -1,7 +1,6 @@
 -- The life of a call decides what becomes of it.
-use Rattle.std.proofs.Common.{◌≡◌, ◌≢◌, ℕ, Bool, true, false, List, [], ◌∷◌, refl, sym, ◌∙◌, inl, inr, arith}
+use Rattle.std.proofs.Common.{◌≡◌, Bool, true, false, List, [], refl, sym, ◌∙◌, inl, inr, arith}
 use Rattle.status.specs.declared.circuit.Cic.{Cic}
-use Rattle.message.specs.declared.kinds.BlockType.TheVariants.{Maintenance, Hardware}
 use Rattle.circuit.specs.Changes.{with_call}
 use Rattle.circuit.specs.Laws.{told_of}
 use Rattle.circuit.specs.Signals.{passes_iam}

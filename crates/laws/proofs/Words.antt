@@ -11,7 +11,7 @@ use Rattle.told.specs.declared.kinds.EndCause.{EndCause}
 use Rattle.told.specs.declared.kinds.Timer.{Timer}
 use Rattle.told.specs.declared.kinds.Word.{Word}
 use Rattle.told.specs.declared.kinds.Word.TheVariants.{Send, Begun, Ended, Alert}
-use Rattle.supervision.specs.Moves.{Move, told_from, sends_from, alert_word, step_of}
+use Rattle.supervision.specs.Moves.{told_from, sends_from, alert_word, step_of}
 use Rattle.supervision.specs.Trunks.{cic_at}
 use Rattle.supervision.specs.declared.trunk.Config.{Config}
 use Rattle.laws.specs.Octets.{Sends, Rises, WordsFollow}

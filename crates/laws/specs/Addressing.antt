@@ -1,13 +1,18 @@
--- Which messages and orders are accepted.
-use Rattle.std.specs.Prelude.{◌≡◌, ◌≢◌, ℕ, ◌+◌, ◌-◌, ◌*◌, ◌%◌, ◌<◌, ◌≤◌, true, List, length, is_ok, Some, None, Ok}
+-- Which messages, orders and expiries are accepted.
+use Rattle.std.specs.Prelude.{◌≡◌, ◌≢◌, ℕ, ◌+◌, ◌-◌, ◌*◌, ◌%◌, ◌<◌, ◌≤◌, true, List, length, is_ok, Some, None, Ok, Option}
 use Rattle.status.specs.Bits.{is_named}
 use Rattle.message.specs.Decode.{decode}
 use Rattle.message.specs.Laws.{Exactly}
 use Rattle.message.specs.Msg.{Msg, single, release_complete, group_reset, group_reset_ack, grouped, release, call}
+use Rattle.circuit.specs.declared.record.Call.TheVariants.{Releasing}
 use Rattle.circuit.specs.declared.record.Circuit.{Circuit}
 use Rattle.circuit.specs.declared.record.Reset.TheVariants as reset
+use Rattle.told.specs.Words.{timer_of}
+use Rattle.told.specs.declared.kinds.Timer.{Timer}
+use Rattle.told.specs.declared.kinds.Timer.TheVariants.{T1, T5, T12, T13, T14, T15, T16, T17, T18, T19, T20, T21, T22, T23}
 use Rattle.supervision.specs.Answering as of
 use Rattle.supervision.specs.Answering.{Order, answer}
+use Rattle.supervision.specs.Expiring.{expiring}
 use Rattle.supervision.specs.Lending.{Lent, Suffices}
 use Rattle.supervision.specs.Receiving.{receiving}
 use Rattle.supervision.specs.Trunks.{placed}
@@ -65,3 +70,28 @@ Acceptable t T (of.group_reset system) = system < t.systems
 abbrev pub OrdersAccepted : Type 0
 OrdersAccepted = (t : Config) (room : ℕ) (o : Order) (lent : Lent) → Suffices t room lent
     → Exactly (is_ok (answer t room o lent) ≡ true) (Acceptable t lent.table o)
+
+-- the CIC of a circuit, or a PCM system of the trunk and a type, as the timer asks
+abbrev pub Expirable : Config → List Circuit → Option Timer → ℕ → ℕ → Type 0
+Expirable t T None at kind = ⊥
+Expirable t T (Some T1) at kind = IsCircuit t T at
+-- what T5 does may not be ordered while a group reset waits
+Expirable t T (Some T5) at kind =
+    IsCircuit t T at × ((placed T (at - t.first.0)).call ≡ Releasing → (placed T (at - t.first.0)).reset ≢ reset.Group)
+Expirable t T (Some T12) at kind = IsCircuit t T at
+Expirable t T (Some T13) at kind = IsCircuit t T at
+Expirable t T (Some T14) at kind = IsCircuit t T at
+Expirable t T (Some T15) at kind = IsCircuit t T at
+Expirable t T (Some T16) at kind = IsCircuit t T at
+Expirable t T (Some T17) at kind = IsCircuit t T at
+Expirable t T (Some T18) at kind = (kind ≤ 1) × (at < t.systems)
+Expirable t T (Some T19) at kind = (kind ≤ 1) × (at < t.systems)
+Expirable t T (Some T20) at kind = (kind ≤ 1) × (at < t.systems)
+Expirable t T (Some T21) at kind = (kind ≤ 1) × (at < t.systems)
+Expirable t T (Some T22) at kind = at < t.systems
+Expirable t T (Some T23) at kind = at < t.systems
+
+-- where enough is lent, an expiry is accepted exactly if it names such
+abbrev pub ExpiriesAccepted : Type 0
+ExpiriesAccepted = (t : Config) (room timer at kind : ℕ) (lent : Lent) → Suffices t room lent
+    → Exactly (is_ok (expiring t room timer at kind lent) ≡ true) (Expirable t lent.table (timer_of timer) at kind)

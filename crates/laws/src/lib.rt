@@ -1,7 +1,7 @@
 // Laws of supervision, shown of its definitions: what every accepted operation does, in the words of the subject.
 #![tactic(auto)]
 
-ghost use Rattle.laws.specs.Addressing.{MessagesAccepted, OrdersAccepted};
+ghost use Rattle.laws.specs.Addressing.{ExpiriesAccepted, MessagesAccepted, OrdersAccepted};
 ghost use Rattle.laws.specs.Blocks.{AllBlocksMove};
 ghost use Rattle.laws.specs.Calls.{CallsLive, CallsDecided, CausesKept, UnequippedStay};
 ghost use Rattle.laws.specs.Naming.{StatusesTell, GroupsName};
@@ -29,6 +29,11 @@ pub fn orders_send()
 // An order is accepted exactly where its arguments, its circuits and their states allow it.
 pub fn orders_accepted()
     ensures { OrdersAccepted }
+{}
+
+// An expiry is accepted exactly where its timer is listed, and it names a circuit or a PCM system and a type.
+pub fn expiries_accepted()
+    ensures { ExpiriesAccepted }
 {}
 
 // A message is accepted exactly where the circuits that it names are circuits of the table.
