@@ -1,4 +1,5 @@
-// Laws of supervision, shown of its definitions: what every accepted operation does, in the words of the subject.
+// Laws of supervision, shown of its definitions: what every accepted operation does, in the words
+// of the subject.
 #![tactic(auto)]
 
 ghost use Rattle.laws.specs.Addressing.{ExpiriesAccepted, MessagesAccepted, OrdersAccepted};
@@ -8,7 +9,8 @@ ghost use Rattle.laws.specs.Naming.{StatusesTell, GroupsName};
 ghost use Rattle.laws.specs.Octets.{SendsCut, WordsFollow};
 ghost use Rattle.laws.specs.Sending.{OrdersSend, MessagesAnswered, ExpiriesRepeat};
 
-// How a call begins, goes on and ends, and what is told of it; and the cause that is kept of a release.
+// How a call begins, goes on and ends, and what is told of it; and the cause that is kept of a
+// release.
 pub fn calls_live()
     ensures life { CallsLive }
     ensures decided { CallsDecided }
@@ -16,7 +18,8 @@ pub fn calls_live()
     ensures unequipped { UnequippedStay }
 {}
 
-// How the blocks of either side and a waiting reset move, by single messages and by group messages alike.
+// How the blocks of either side and a waiting reset move, by single messages and by group messages
+// alike.
 pub fn blocks_move()
     ensures { AllBlocksMove }
 {}
@@ -31,7 +34,8 @@ pub fn orders_accepted()
     ensures { OrdersAccepted }
 {}
 
-// An expiry is accepted exactly where its timer is listed, and it names a circuit or a PCM system and a type.
+// An expiry is accepted exactly where its timer is listed, and it names a circuit or a PCM system
+// and a type.
 pub fn expiries_accepted()
     ensures { ExpiriesAccepted }
 {}
@@ -56,7 +60,8 @@ pub fn statuses_tell()
     ensures { StatusesTell }
 {}
 
-// Our group messages name the circuits that a test holds of, one message for each PCM system that has one.
+// Our group messages name the circuits that a test holds of, one message for each PCM system that
+// has one.
 pub fn groups_name()
     ensures { GroupsName }
 {}
