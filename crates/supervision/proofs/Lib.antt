@@ -5,6 +5,7 @@ pub mod Asking
 pub mod Bits
 pub mod Choosing
 pub mod Concerned
+pub mod Cutting
 pub mod Extending
 pub mod Finishing
 pub mod Fresh

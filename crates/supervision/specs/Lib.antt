@@ -1,4 +1,5 @@
 pub mod Answering
+pub mod Cutting
 pub mod Due
 pub mod Expiring
 pub mod Groups

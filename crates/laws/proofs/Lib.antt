@@ -1,0 +1,14 @@
+pub mod Effect
+pub mod Call
+pub mod Kept
+pub mod Places
+pub mod Meeting
+pub mod Shown
+pub mod Block
+pub mod Name
+pub mod Send
+pub mod Expiry
+pub mod Words
+pub mod Decide
+pub mod Address
+pub mod Accept

@@ -1,0 +1,7 @@
+pub mod Addressing
+pub mod Blocks
+pub mod Calls
+pub mod Events
+pub mod Naming
+pub mod Octets
+pub mod Sending
