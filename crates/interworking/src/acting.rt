@@ -6,7 +6,6 @@ ghost use Rattle.interworking.specs.Acting.{Acted, Performed};
 use crate::carrying::append;
 use crate::end::End;
 use crate::fault::Fault;
-use crate::incoming;
 use crate::step::Task;
 use circuit::Circuit;
 use policy::Policy;
@@ -29,7 +28,7 @@ fn perform<P: Policy>(
     match task {
         Task::Order(order) => trunk.order(order, table, policy, words, octets),
         Task::Expire { timer, at, kind } => {
-            incoming::expire(trunk, timer, at, kind, table, policy, words, octets)
+            trunk.expire(timer, at, kind, table, policy, words, octets)
         }
         Task::Receive(received) => trunk.receive(received, table, policy, words, octets),
     }

@@ -6,7 +6,6 @@ mod bench;
 mod carrying;
 mod end;
 mod fault;
-mod incoming;
 mod line;
 mod opening;
 mod running;
