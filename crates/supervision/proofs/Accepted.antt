@@ -1,11 +1,11 @@
 -- What an accepted answer says: of the circuit that a CIC names, of the table afterwards, of what is sent.
-use Rattle.std.proofs.Common.{◌≡◌, ℕ, ◌-◌, ◌+◌, ◌-◌, ◌*◌, ◌/◌, ◌%◌, ◌<◌, ◌≤◌, Bool, true, false, cond, not, ◌&&◌, leb, List, length, Ok, sym, refl, ap, ◌∙◌, ⊎_elim, subst, arith}
+use Rattle.std.proofs.Common.{◌≡◌, ℕ, ◌-◌, ◌-◌, ◌<◌, ◌≤◌, Bool, true, false, cond, not, ◌&&◌, leb, List, length, Ok, sym, refl, ap, ◌∙◌, ⊎_elim, subst, arith}
 use Rattle.std.proofs.lemmas.List.{get_or_past}
 use Rattle.std.proofs.lemmas.Bool.{not-false, cases_lt, false≢true}
 use Rattle.status.specs.declared.circuit.Cic.{Cic}
 use Rattle.message.specs.Msg.{Msg, single}
 use Rattle.message.specs.declared.kinds.Single.TheVariants.{Rsc}
-use Rattle.circuit.specs.Circuits.{vacant, is_group, is_releasing}
+use Rattle.circuit.specs.Circuits.{vacant, is_releasing}
 use Rattle.circuit.specs.declared.record.Circuit.{Circuit}
 use Rattle.circuit.specs.declared.record.Reset.TheVariants as reset
 use Rattle.circuit.specs.declared.rules.Rule.TheVariants.{Reset}
@@ -14,7 +14,6 @@ use Rattle.told.specs.declared.kinds.Timer.TheVariants.{T5}
 use Rattle.refusal.specs.declared.reasons.Refusal.TheVariants.{Address}
 use Rattle.refusal.specs.Refusals.{and_then}
 use Rattle.supervision.specs.declared.trunk.Config.{Config}
-use Rattle.supervision.specs.Laws.{AllSound}
 use Rattle.supervision.specs.Moves.{Move, table_of, some_from}
 use Rattle.supervision.specs.Expiring.{alert_at, alerting, gives_up}
 use Rattle.supervision.specs.Orders.{circuit_of, only, singly}

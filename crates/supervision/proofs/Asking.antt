@@ -6,12 +6,11 @@ use Rattle.policy.specs.declared.interface.Word.{Word}
 use Rattle.refusal.specs.declared.reasons.Refusal.{Refusal}
 use Rattle.supervision.specs.Answering.{answer, seize}
 use Rattle.supervision.specs.declared.trunk.Config.{Config}
-use Rattle.supervision.specs.Laws.{Laws, Outcome}
-use Rattle.supervision.specs.Lending.{Lent, Done}
-use Rattle.supervision.specs.Moves.{Move}
+use Rattle.supervision.specs.Laws.{Outcome}
+use Rattle.supervision.specs.Lending.{Lent}
 use Rattle.supervision.specs.Ordering.{ToldIf}
 use Rattle.supervision.specs.Seizing.{may_ask, seizing, Seized, SeizedIf}
-use Rattle.supervision.proofs.Keeping.{outcome_refused}
+use Rattle.supervision.proofs.Keeping.{outcome_as, outcome_refused}
 use Rattle.supervision.proofs.Turning.{tells_same}
 
 behind : (h : List Bool) → (choice : Option Place) × Chosen h choice → (choice : Option Place) × Chosen (false ∷ h) choice
@@ -27,14 +26,6 @@ pub some_choice : (h : List Bool) → (choice : Option Place) × Chosen h choice
 some_choice [] = (None, λ k. refl)
 some_choice (true ∷ h) = (Some (record { 0 = 0 }), refl)
 some_choice (false ∷ h) = behind h (some_choice h)
-
--- an outcome looks at the answer to what was lent alone
-outcome_same : (t : Config) (f g : Lent → Result Move Refusal) (r : Result (ℕ × ℕ) Refusal) (before after : Lent) → f before ≡ g before → Outcome t f r before after → Outcome t g r before after
-outcome_same t f g r before after e o = record {
-  done = subst (λ (a : Result Move Refusal). Done t a r before after) e o.done;
-  laws = subst (λ (a : Result Move Refusal). Laws t a before after) e o.laws;
-  within = o.within;
-}
 
 pub seized : {P : Type 0} (picks : Option Place → P → P → Type 0) (obeys : Word → P → P → Type 0) (t : Config) (room : ℕ) (body : List ℕ) (r : Result (ℕ × ℕ) Refusal) (before after : Lent) (old new : P)
     → Seized picks obeys t room body r before after old new
@@ -56,6 +47,6 @@ seized {P} picks obeys t room body r before after old new h = go (may_ask t room
     go (Ok u) q d = (
       d.choice,
       d.chosen,
-      outcome_same t (λ b. seizing t body d.choice b.table) (answer t room (seize body d.choice)) r before after (rw q refl) d.outcome,
+      outcome_as t (answer t room (seize body d.choice)) (λ b. seizing t body d.choice b.table) r before after (rw q refl) d.outcome,
       rw q d.asked,
     )

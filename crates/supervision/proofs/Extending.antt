@@ -3,6 +3,7 @@ use Rattle.std.proofs.Common.{◌≡◌, ℕ, ◌+◌, ◌<◌, ◌≤◌, Bool,
 use Rattle.std.proofs.lemmas.List.{append-nil, length-map, map_push, length_push, take-append-drop}
 use Rattle.std.specs.List.{flat_map}
 use Rattle.status.specs.declared.circuit.Cic.{Cic}
+use Rattle.message.proofs.RoundTrip.{written_back}
 use Rattle.message.specs.Encode.{encode, refusal_of, written}
 use Rattle.message.specs.Msg.{Msg}
 use Rattle.message.specs.declared.fault.MessageFault.{MessageFault}
@@ -15,7 +16,7 @@ use Rattle.told.specs.declared.kinds.Word.{Word}
 use Rattle.told.specs.declared.kinds.Word.TheVariants.{Send, Alert}
 use Rattle.supervision.specs.declared.trunk.Config.{Config}
 use Rattle.supervision.specs.Expiring.{alerting}
-use Rattle.supervision.specs.Lending.{Lent, Performed, lent, over, carried}
+use Rattle.supervision.specs.Lending.{AreRead, Lent, Performed, lent, over, carried}
 use Rattle.supervision.specs.Moves.{Move, each_from, step_of, where_named, told_from, sends_from, call_words, words_of, octets_of}
 use Rattle.supervision.specs.Receiving.{moving, nothing}
 use Rattle.supervision.specs.Steps.{Stood, sending}
@@ -73,8 +74,10 @@ more_written : (t : Config) (m m' : Move) (x : Word) (os : List ℕ) (before : L
     → w' ≡ set w n.0 (number_of x)
     → o' ≡ take n.1 o ++ over os (drop n.1 o)
     → n' ≡ (n.0 + 1, n.1 + length os)
+    → (n.0 < 96) × (n.1 + length os ≤ 320)
+    → AreRead m'.sent
     → Performed t m' n' before (lent T H w' o')
-more_written t m m' x os before T H n n' w o w' o' en er ew eo p lw lo pw po pn =
+more_written t m m' x os before T H n n' w o w' o' en er ew eo p lw lo pw po pn few read =
     let said = words_of t m before.table in
     let W = before.words in
     let O = before.octets in
@@ -95,35 +98,45 @@ more_written t m m' x os before T H n n' w o w' o' en er ew eo p lw lo pw po pn 
       counts = pn ∙ rw (ew, eo, length_push said x, length-append (octets_of m) os, c0, c1) refl;
       carries = rw (is_t, is_h, words, octets, en, er) refl;
       within = rw pn (omega (arith, size_w, lw), omega (arith, size_o, lo));
+      few = rw pn (omega (arith, few.0), few.1);
+      read = read;
     }
+
+-- one message more is read
+read_more : (ms : List Msg) (m : Msg) → AreRead ms → refusal_of m ≡ None → AreRead (ms ++ m ∷ [])
+read_more [] m h e = ((e, written_back m e), tt)
+read_more (x ∷ ms) m h e = (h.0, read_more ms m h.1 e)
 
 -- a message more
 pub one_sent : (t : Config) (m : Move) (msg : Msg) (before : Lent) (T : List Circuit) (H : List Bool) (n n' : ℕ × ℕ) (w o w' o' : List ℕ) → m.alert ≡ None
     → Performed t m n before (lent T H w o)
-    → n.0 < length w
-    → n.1 + length (encode msg) ≤ length o
+    → refusal_of msg ≡ None
+    → (n.0 < 96) × (n.1 + length (encode msg) ≤ 320)
+    → (96 ≤ length w) × (320 ≤ length o)
     → w' ≡ set w n.0 (number_of (Send n.1 (length (encode msg))))
     → o' ≡ take n.1 o ++ over (encode msg) (drop n.1 o)
     → n' ≡ (n.0 + 1, n.1 + length (encode msg))
     → Performed t (sending (msg ∷ []) m) n' before (lent T H w' o')
-one_sent t m msg before T H n n' w o w' o' e p lw lo pw po pn =
+one_sent t m msg before T H n n' w o w' o' e p may few size pw po pn =
     let c1 : n.1 ≡ length (octets_of m) = ap (λ (y : ℕ × ℕ). y.1) p.counts in
     more_written t m (sending (msg ∷ []) m) (Send n.1 (length (encode msg))) (encode msg) before T H n n' w o w' o' refl refl
-    (words_more t m msg before.table e ∙ rw c1 refl) (flat_one m.sent msg) p lw lo pw po pn
+    (words_more t m msg before.table e ∙ rw c1 refl) (flat_one m.sent msg) p (omega (arith, few.0, size.0)) (omega (arith, few.1, size.1)) pw po pn few
+    (read_more m.sent msg p.read may)
 
 -- the alert
 pub one_alert : (t : Config) (m : Move) (x : Timer) (cic : Cic) (before : Lent) (T : List Circuit) (H : List Bool) (n n' : ℕ × ℕ) (w o w' : List ℕ) → m.alert ≡ None
     → Performed t m n before (lent T H w o)
-    → n.0 < length w
+    → n.0 < 96
+    → 96 ≤ length w
     → w' ≡ set w n.0 (number_of (Alert x cic))
     → n' ≡ (n.0 + 1, n.1)
     → Performed t (alerting (Some (x, cic)) m) n' before (lent T H w' o)
-one_alert t m x cic before T H n n' w o w' e p lw pw pn =
+one_alert t m x cic before T H n n' w o w' e p few size pw pn =
     more_written t m (alerting (Some (x, cic)) m) (Alert x cic) [] before T H n n' w o w' o refl refl
-    (words_alert t m x cic before.table e) (sym (append-nil (octets_of m))) p lw
+    (words_alert t m x cic before.table e) (sym (append-nil (octets_of m))) p (omega (arith, few, size))
     (let is_o : o ≡ over (octets_of m) before.octets = ap (λ (y : Lent). y.octets) p.carries in
     rw (is_o, length_over (octets_of m) before.octets (within p)) (rw (add-zero n.1) p.within.1))
-    pw (sym (take-append-drop n.1 o)) (pn ∙ rw (add-zero n.1) refl)
+    pw (sym (take-append-drop n.1 o)) (pn ∙ rw (add-zero n.1) refl) (few, rw (add-zero n.1) p.few.1) p.read
   where
     within : Performed t m n before (lent T H w o) → length (octets_of m) ≤ length before.octets
     within p = let c1 : n.1 ≡ length (octets_of m) = ap (λ (y : ℕ × ℕ). y.1) p.counts in rw (← c1) p.within.1
@@ -131,14 +144,17 @@ one_alert t m x cic before T H n n' w o w' e p lw pw pn =
 -- the places changed, and nothing sent yet
 pub stood_done : (t : Config) (named : ℕ → Bool) (rule : ℕ → Circuit → Change) (T : List Circuit) (H : List Bool) (W O : List ℕ) (table : List Circuit) (held : List Bool) (words : List ℕ) (n : ℕ)
     → Stood t (where_named named rule) T H W table held words n
+    → n ≤ 96
     → n ≤ length W
     → Performed t (moving named rule []) (n, 0) (lent T H W O) (lent table held words O)
-stood_done t named rule T H W O table held words n (it, ih, iw, im) l =
+stood_done t named rule T H W O table held words n (it, ih, iw, im) few l =
     let said = told_from t (where_named named rule) 0 T in
     record {
       counts = rw (append-nil said, im) refl;
       carries = rw (it, ih, iw, append-nil said) refl;
       within = (l, omega arith);
+      few = (few, omega arith);
+      read = tt;
     }
 
 -- nothing is done
@@ -153,4 +169,6 @@ nothing_done t before =
       counts = rw told refl;
       carries = rw (table, told, settled_same before.held T) refl;
       within = (omega arith, omega arith);
+      few = (omega arith, omega arith);
+      read = tt;
     }

@@ -181,6 +181,8 @@ outcome_of t answer m n before after l h a p = record {
   done = rw a (ap Ok p.counts, p.carries);
   laws = rw (a, p.carries) (lawful t m before l h);
   within = p.within;
+  few = p.few;
+  read = rw a p.read;
 }
 
 -- refused, and all is as it was
@@ -188,4 +190,8 @@ pub outcome_refused : (t : Config) (answer : Lent → Result Move Refusal) (e : 
     → answer before ≡ Err e
     → r ≡ Err e
     → Outcome t answer r before before
-outcome_refused t answer e r before a q = rw q (record { done = rw a (refl, refl); laws = rw a refl; within = tt })
+outcome_refused t answer e r before a q = rw q (record { done = rw a (refl, refl); laws = rw a refl; within = tt; few = tt; read = rw a tt })
+
+-- an answer that is another's at what is lent
+pub outcome_as : (t : Config) (f g : Lent → Result Move Refusal) (r : Result (ℕ × ℕ) Refusal) (l l' : Lent) → f l ≡ g l → Outcome t g r l l' → Outcome t f r l l'
+outcome_as t f g r l l' e o = record { done = rw e o.done; laws = rw e o.laws; within = o.within; few = o.few; read = rw e o.read }

@@ -1,5 +1,5 @@
 -- Messages for a range: what is answered, what is due after their effect, and their whole outcome.
-use Rattle.std.proofs.Common.{◌≡◌, ℕ, ◌+◌, ◌-◌, ◌*◌, ◌<◌, ◌≤◌, Bool, true, false, cond, not, ◌&&◌, leb, ltb, List, [], ◌∷◌, length, Some, None, Ok, Option, Result, refl, ap, ◌∙◌, subst, ⊎_elim, arith}
+use Rattle.std.proofs.Common.{◌≡◌, ℕ, ◌+◌, ◌-◌, ◌*◌, ◌<◌, ◌≤◌, Bool, true, false, cond, not, ◌&&◌, leb, ltb, List, [], ◌∷◌, length, Some, None, Ok, Err, Option, Result, refl, ap, ◌∙◌, subst, ⊎_elim, arith}
 use Rattle.std.proofs.lemmas.Bool.{cases_Bool, leb-true, le-leb, lt-ltb, and_parts}
 use Rattle.status.specs.declared.circuit.Cic.{Cic}
 use Rattle.policy.specs.declared.interface.Place.{Place}
@@ -180,3 +180,9 @@ call_outcome t c Acm body r before after h = h
 call_outcome t c Con body r before after h = h
 call_outcome t c Anm body r before after h = h
 call_outcome t c Cpg body r before after h = h
+
+-- a range that is not found is refused
+pub not_spanned : (a b : Bool) (e : Refusal) (x : Slots) (m : Move) → ◌≡◌ {A = Result Slots Refusal} (Err e) (unless a Address (unless b Address (Ok x))) → unless a Address (unless b Address (Ok m)) ≡ Err e
+not_spanned true b e x m h = let z : e ≡ Address = cc in rw z refl
+not_spanned false true e x m h = let z : e ≡ Address = cc in rw z refl
+not_spanned false false e x m h = let z : ◌≡◌ {A = ℕ} 0 1 = cc in absurd (omega arith)

@@ -43,10 +43,6 @@ pub one_repeated : (t : Config) (c : ℕ) (waits : Circuit → Bool) (message : 
 one_repeated t c waits message alert n l l' h q w p =
     outcome_repeated t (λ (b : Lent). repeats_one t c waits message alert b.table) (message (circuit_of t (as_cic c) l.table) ∷ []) alert n l l' h (rw (q, w) refl) p
 
--- an answer that is another's at what is lent
-pub outcome_as : (t : Config) (f g : Lent → Result Move Refusal) (r : Result (ℕ × ℕ) Refusal) (l l' : Lent) → f l ≡ g l → Outcome t g r l l' → Outcome t f r l l'
-outcome_as t f g r l l' e o = record { done = rw e o.done; laws = rw e o.laws; within = o.within }
-
 -- an expiry after the tests that every operation makes
 pub expiring_at : (t : Config) (room timer : ℕ) (x : Timer) (at kind : ℕ) (l : Lent) → Ok tt ≡ admitted t room l → Some x ≡ timer_of timer
     → expiring t room timer at kind l ≡ expired t x at kind l.table

@@ -13,7 +13,7 @@ use Rattle.told.specs.declared.kinds.Word.{Word}
 use Rattle.told.specs.declared.kinds.Word.TheVariants.{Send, Begun, Ended, Alert}
 use Rattle.refusal.specs.declared.reasons.Refusal.{Refusal}
 use Rattle.supervision.specs.declared.trunk.Config.{Config}
-use Rattle.supervision.specs.Lending.{Lent, kept, Done}
+use Rattle.supervision.specs.Lending.{AreRead, Lent, kept, Done}
 use Rattle.supervision.specs.Moves.{Move, table_of, words_of}
 use Rattle.supervision.specs.Orders.{singly, slots, every_slot, status_of}
 use Rattle.supervision.specs.Trunks.{cic_at, placed}
@@ -59,12 +59,21 @@ abbrev pub Laws : Config → Result Move Refusal → Lent → Lent → Type 0
 Laws t (Err e) before after = after ≡ before
 Laws t (Ok m) before after = Lawful t m before after
 
+-- what an accepted operation sends is read as it was meant
+abbrev pub Readable : Result Move Refusal → Type 0
+Readable (Err e) = Unit {0}
+Readable (Ok m) = AreRead m.sent
+
 -- what an operation promises, by what the rules answer to what is lent
 pub record Outcome (t : Config) (answer : Lent → Result Move Refusal) (r : Result (ℕ × ℕ) Refusal) (before after : Lent) : Type 0 where
   pub done : Done t (answer before) r before after
   pub laws : Laws t (answer before) before after
   -- what is written is within the outputs
   pub within : IfOk r (λ n. (n.0 ≤ length before.words) × (n.1 ≤ length before.octets))
+  -- and takes no more than has to be lent
+  pub few : IfOk r (λ n. (n.0 ≤ 96) × (n.1 ≤ 320))
+  -- each message that is sent may be written, and is read as it was meant
+  pub read : Readable (answer before)
 
 -- a group order that was accepted
 pub record GroupOrder (t : Config) (system mask : ℕ) (rule : Rule) (m : Move) (before after : Lent) : Type 0 where

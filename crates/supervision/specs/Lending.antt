@@ -1,6 +1,7 @@
 -- What is lent to an operation, and what it leaves there.
 use Rattle.std.specs.Prelude.{◌≡◌, ℕ, ◌*◌, ◌≤◌, Bool, true, false, List, [], ◌∷◌, ◌++◌, map, length, drop, None, Ok, Err, Result}
-use Rattle.message.specs.Encode.{encode, refusal_of}
+use Rattle.message.specs.Decode.{decode}
+use Rattle.message.specs.Encode.{encode, plain, refusal_of}
 use Rattle.message.specs.Msg.{Msg}
 use Rattle.circuit.specs.Circuits.{is_open}
 use Rattle.told.specs.Words.{number_of}
@@ -63,11 +64,19 @@ carried t m before =
 abbrev pub counts_of : Config → Move → Lent → ℕ × ℕ
 counts_of t m before = (length (words_of t m before.table), length (octets_of m))
 
+-- each may be written, and is then read as it was meant, its spare bits 0
+abbrev pub AreRead : List Msg → Type 0
+AreRead [] = Unit {0}
+AreRead (m ∷ ms) = ((refusal_of m ≡ None) × (decode (encode m) ≡ Ok (plain m))) × AreRead ms
+
 -- a move is done: n counts what is written, all of it within the outputs
 pub record Performed (t : Config) (m : Move) (n : ℕ × ℕ) (before after : Lent) : Type 0 where
   pub counts : n ≡ counts_of t m before
   pub carries : after ≡ carried t m before
   pub within : (n.0 ≤ length before.words) × (n.1 ≤ length before.octets)
+  -- it takes no more than has to be lent, and what it sends is read
+  pub few : (n.0 ≤ 96) × (n.1 ≤ 320)
+  pub read : AreRead m.sent
 
 -- what an operation does, by what the rules answer: refused, all is as it was; accepted, all is as the move says
 abbrev pub Done : Config → Result Move Refusal → Result (ℕ × ℕ) Refusal → Lent → Lent → Type 0

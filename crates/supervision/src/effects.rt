@@ -93,10 +93,10 @@ pub(crate) fn send(
     octets: &mut [u8],
 ) -> (usize, usize)
     requires writable { refusal_of (meaning message) ≡ None }
-    requires word { written.0 < length words.old }
-    requires room { written.1 + length (encode (meaning message)) ≤ length octets.old }
-    requires place { written.1 < 4096 }
-    requires short { length (encode (meaning message)) < 65536 }
+    requires word { written.0 < 96 }
+    requires room { written.1 + length (encode (meaning message)) ≤ 320 }
+    requires words { 96 ≤ length words.old }
+    requires octets { 320 ≤ length octets.old }
     ensures sends { Extends (sending (meaning message.entry ∷ [])) written words.old octets.old
         result words.new octets.new }
     ensures told { result.0 ≡ written.0 + 1 }
@@ -123,7 +123,8 @@ pub(crate) fn sweep<P: Policy>(
 ) -> usize
     requires inside { slots.first.0 + slots.group.range.0 < length table.old }
     requires table { length table.old ≤ places trunk.config }
-    requires room { tally effect slots (slots.group.range.0 + 1) * 2 ≤ length words.old }
+    requires room { tally effect slots (slots.group.range.0 + 1) ≤ 32 }
+    requires words { 96 ≤ length words.old }
     ensures done { (octets : List ℕ)
         → Performed trunk.config
         (moving (touched effect slots.entry) (rule_by effect slots.entry) []) (result, 0)

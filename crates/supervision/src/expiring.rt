@@ -39,9 +39,9 @@ fn repeat(
     octets: &mut [u8],
 ) -> (usize, usize)
     requires writable { refusal_of (meaning message) ≡ None }
-    requires words { 2 ≤ length words.old }
-    requires octets { length (encode (meaning message)) ≤ length octets.old }
-    requires short { length (encode (meaning message)) < 65536 }
+    requires words { 96 ≤ length words.old }
+    requires octets { 320 ≤ length octets.old }
+    requires short { length (encode (meaning message)) ≤ 320 }
     ensures { (t : Numbers) (table : List Record) (held : List Bool)
         → Performed t
         (repeating (meaning message.entry ∷ []) (alert_for timer (cic_in (meaning message.entry))))

@@ -88,9 +88,10 @@ fn reply(
     octets: &mut [u8],
 ) -> (usize, usize)
     requires cic { cic.0 < 4096 }
-    requires word { written.0 < length words.old }
-    requires room { written.1 + 8 ≤ length octets.old }
-    requires place { written.1 < 4096 }
+    requires word { written.0 < 96 }
+    requires room { written.1 + 8 ≤ 320 }
+    requires words { 96 ≤ length words.old }
+    requires octets { 320 ≤ length octets.old }
     ensures sends { Extends (sending (reply_to cic.0 signal circuit)) written words.old octets.old
         result words.new octets.new }
     ensures told { result.0 ≤ written.0 + 1 }

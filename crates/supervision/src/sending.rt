@@ -23,7 +23,8 @@ pub(crate) fn alert(
     written: (usize, usize),
     words: &mut [u32],
 ) -> (usize, usize)
-    requires { written.0 < length words.old }
+    requires word { written.0 < 96 }
+    requires words { 96 ≤ length words.old }
     ensures alerts { (octets : List ℕ)
         → Extends (alerting (Some (timer, cic))) written words.old octets result words.new octets }
     ensures told { result.0 ≡ written.0 + 1 }
@@ -46,9 +47,10 @@ impl Trunk {
         octets: &mut [u8],
     ) -> (usize, usize)
         requires system { system < self.config.systems }
-        requires word { written.0 < length words.old }
-        requires room { written.1 + 11 ≤ length octets.old }
-        requires place { written.1 < 4096 }
+        requires word { written.0 < 96 }
+        requires room { written.1 + 11 ≤ 320 }
+        requires words { 96 ≤ length words.old }
+        requires octets { 320 ≤ length octets.old }
         ensures sends { Extends
             (sending (group_for self.config what why (is_due due.entry) system table.now)) written
             words.old octets.old result words.new octets.new }
@@ -79,9 +81,10 @@ impl Trunk {
         octets: &mut [u8],
     ) -> (usize, usize)
         requires inside { due.slots.first.0 + due.slots.group.range.0 < places self.config }
-        requires word { written.0 + 16 ≤ length words.old }
-        requires room { written.1 + 176 ≤ length octets.old }
-        requires place { written.1 < 2048 }
+        requires word { written.0 + 16 ≤ 96 }
+        requires room { written.1 + 176 ≤ 320 }
+        requires words { 96 ≤ length words.old }
+        requires octets { 320 ≤ length octets.old }
         ensures sends { Extends
             (sending (groups self.config what why (is_due due.entry) table.now)) written
             words.old octets.old result words.new octets.new }

@@ -15,7 +15,7 @@ returns-clause-sends c = λ t m before table held e p.
     let part = take (length O - sent) (drop sent O) in
     let len : c.in-Ok.length ≡ length (encode msg) = written_ok msg (length part) c.in-Ok.length c.requires.writable (c.in-Ok.ensures.value) in
     one_sent t m msg before table held c.args.written (c.args.written.0 + 1, sent + c.in-Ok.length)
-    c.args.words.now O (set c.args.words.now c.args.written.0 c.from.result) _ e p c.requires.word c.requires.room
+    c.args.words.now O (set c.args.words.now c.args.written.0 c.from.result) _ e p c.requires.writable (c.requires.word, c.requires.room) (c.requires.words, c.requires.octets)
     (ap (set c.args.words.now c.args.written.0) (c.from.ensures.0 ∙ ap (λ (n : ℕ). number_of (Send sent n)) len))
-    (part_at sent (encode msg) O c.write.new.out (omega (arith, c.requires.room)) (c.in-Ok.ensures.after ∙ rw len refl))
+    (part_at sent (encode msg) O c.write.new.out (omega (arith, c.requires.room, c.requires.octets)) (c.in-Ok.ensures.after ∙ rw len refl))
     (rw len refl)

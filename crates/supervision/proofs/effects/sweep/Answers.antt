@@ -55,6 +55,7 @@ loop-n-preserved g c =
     let few : length (told_from t f 0 (take k T)) ≤ tally c.args.effect c.args.slots n * 2 = rw (← c.loop-n.invariant.0.3) c.loop-n.invariant.1 in
     let grows = tally_grows c.args.effect c.args.slots (n + 1) (c.args.slots.group.range.0 + 1) (omega arith) in
     let room = c.requires.room in
+    let size = c.requires.words in
     let here = tally_grows c.args.effect c.args.slots n (n + 1) (omega arith) in
     let is : c.touches.result ≡ named k = c.touches.ensures in
     rw (← add_assoc first n 1)
@@ -74,7 +75,7 @@ loop-n-preserved g c =
                 (within L) (within (set L n w.visit-count.new.circuit)) (g.P.Policy.held c.loop-n.policy) (g.P.Policy.held w.visit-count.new.policy)
                 c.loop-n.words _ c.loop-n.count (c.loop-n.count + w.visit-count.result)
                 c.loop-n.invariant.0 in-range
-                (rw (at, e) (omega (arith, few, short, more, grows, room)))
+                (rw (at, e) (omega (arith, few, short, more, grows, room, size)))
                 (rw (at, e) table) (rw (at, e) w.visit-count.ensures.held)
                 (rw (at, e) (part_at c.loop-n.count (map number_of told) c.loop-n.words w.visit-count.new.words (omega arith) words))
                 (rw (at, e) (ap (λ (z : ℕ). c.loop-n.count + z) count))),
@@ -113,6 +114,7 @@ returns-clause-done g c = λ O.
     let T = c.args.table.now in
     let last = tally_grows c.args.effect c.args.slots c.loop-n.n (c.args.slots.group.range.0 + 1) (omega arith) in
     let room = c.requires.room in
+    let size = c.requires.words in
     let few = c.loop-n.invariant.1 in
     stood_done c.args.trunk.config named rule T (g.P.Policy.held c.args.policy.now) c.args.words.now O
     (put_mid first (first + c.args.slots.group.range.0 + 1 - first) T c.loop-n.circuits) (g.P.Policy.held c.loop-n.policy) c.loop-n.words c.loop-n.count
@@ -120,7 +122,7 @@ returns-clause-done g c = λ O.
     (put_mid first (first + c.args.slots.group.range.0 + 1 - first) T c.loop-n.circuits) (g.P.Policy.held c.loop-n.policy) c.loop-n.words c.loop-n.count
     c.loop-n.invariant.0 (omega arith)
     (λ j a x. unnamed named rule j x (touched_past c.args.effect c.args.slots j (omega arith))))
-    (omega (arith, last, room, few))
+    (omega (arith, last, room, few)) (omega (arith, last, room, few, size))
 
 pub returns-clause-policy : goal.returns-clause-policy
 returns-clause-policy g c = c.loop-n.invariant.2
@@ -137,5 +139,6 @@ visit-count-requires g c =
     let more = tally_more c.args.effect c.args.slots n (sym c.touches.ensures ∙ c.if-touches.true) in
     let grows = tally_grows c.args.effect c.args.slots (n + 1) (c.args.slots.group.range.0 + 1) (omega arith) in
     let room = c.requires.room in
+    let size = c.requires.words in
     let few = c.loop-n.invariant.1 in
-    rw (rest_length c.loop-n.count c.loop-n.words) (omega (arith, more, grows, room, few))
+    rw (rest_length c.loop-n.count c.loop-n.words) (omega (arith, more, grows, room, few, size))

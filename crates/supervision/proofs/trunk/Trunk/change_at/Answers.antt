@@ -26,7 +26,7 @@ returns-clause-done g c = λ O.
     let stood = stood_one t p p c.args.rule T H W (set T p c.visit.new.circuit) (g.P.Policy.held c.visit.new.policy) c.visit.new.words c.visit.result
     refl c.requires.inside c.requires.room c.requires.equipped (ap (set T p) c.visit.ensures.circuit) c.visit.ensures.held words count in
     stood_done t (λ k. eqb k p) (λ _. applied c.args.rule) T H W O (set T p c.visit.new.circuit) (g.P.Policy.held c.visit.new.policy) c.visit.new.words c.visit.result
-    stood (let r = c.requires.room in omega (arith, count, short, r))
+    stood (omega (arith, count, short)) (let r = c.requires.room in omega (arith, count, short, r))
 
 pub returns-clause-policy : goal.returns-clause-policy
 returns-clause-policy g c =

@@ -5,7 +5,8 @@ use Rattle.told.specs.declared.kinds.Timer.TheVariants.{T18, T19, T20, T21, T22,
 use Rattle.supervision.specs.Expiring.{alert_at, asked_for, lifting_for, expiring, repeats_group, repeats_reset}
 use Rattle.supervision.specs.Lending.{Lent, lent}
 use Rattle.supervision.specs.Trunks.{first_of}
-use Rattle.supervision.proofs.Repeating.{expiring_at, outcome_as}
+use Rattle.supervision.proofs.Repeating.{expiring_at}
+use Rattle.supervision.proofs.Keeping.{outcome_as}
 use Rattle.supervision.proofs.trunk.Trunk.expire.Goals as goal
 
 pub returns-in-T18-clause-outcome : goal.returns-in-T18-clause-outcome

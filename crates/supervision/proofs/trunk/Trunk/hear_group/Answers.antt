@@ -1,4 +1,5 @@
-use Rattle.std.proofs.Common.{◌≡◌, ℕ, ◌-◌, not, ◌&&◌, [], ◌∷◌, refl, ap, ◌∙◌}
+use Rattle.std.proofs.Common.{◌≡◌, ℕ, ◌-◌, not, ◌&&◌, [], ◌∷◌, Err, refl, ap, ◌∙◌}
+use Rattle.std.proofs.lemmas.Result.{err_from_is_err_and}
 use Rattle.message.specs.Meaning.{indicator_of}
 use Rattle.message.specs.Msg.{grouped}
 use Rattle.message.specs.declared.kinds.Grouped.TheVariants.{Cgb, Cgu, Cgba, Cgua}
@@ -6,15 +7,32 @@ use Rattle.circuit.specs.Orders.{applied}
 use Rattle.circuit.specs.declared.rules.Rule.TheVariants.{Signal}
 use Rattle.supervision.specs.Lending.{Lent, lent}
 use Rattle.supervision.specs.Moves.{some_from, table_of}
-use Rattle.supervision.specs.Receiving.{moving, is_range, marked}
+use Rattle.supervision.specs.Receiving.{moving, is_range, marked, heard}
 use Rattle.supervision.specs.declared.due.Due.{Due}
 use Rattle.supervision.specs.Due.{is_due}
 use Rattle.supervision.specs.Groups.{groups}
 use Rattle.supervision.specs.declared.due.Condition.TheVariants.{Unblocked, Standing}
 use Rattle.supervision.specs.declared.slots.Effect.TheVariants.{Marked}
 use Rattle.supervision.specs.Replies.{signal_of}
-use Rattle.supervision.proofs.Ranges.{spans, due_group, group_outcome, signal_equips, ack_unblocked, unlock_stands}
+use Rattle.supervision.proofs.Keeping.{outcome_refused}
+use Rattle.supervision.proofs.Ranges.{spans, not_spanned, group_move, group_heard, due_group, group_outcome, signal_equips, ack_unblocked, unlock_stands}
 use Rattle.supervision.proofs.trunk.Trunk.hear_group.Goals as goal
+
+pub returns-in_err-slots-clause-outcome : goal.returns-in_err-slots-clause-outcome
+returns-in_err-slots-clause-outcome g c =
+    let t = c.args.self.config in
+    let n = c.args.cic.0 in
+    let r = c.args.group.range.0 in
+    let s = c.args.group.status.now in
+    let T = c.args.table.now in
+    let what = c.args.what in
+    let why = c.args.why in
+    let before = lent T (g.P.Policy.held c.args.policy.now) c.args.words.now c.args.octets.now in
+    let p = err_from_is_err_and c.from_residual.result c.from_residual.ensures.1 in
+    let a : heard t (grouped n what (indicator_of why) r s) T ≡ Err p.0 =
+    group_heard t n what why r s T
+    ∙ rw p.2 (not_spanned (not (is_range t n r)) (some_from (λ k x. marked t n r s k && not x.equipped) 0 T) _ (record { first = record { 0 = n - t.first.0 }; group = c.args.group }) (group_move t n what why r s T) c.in_err-slots.ensures.value) in
+    outcome_refused t (λ (b : Lent). heard t (grouped n what (indicator_of why) r s) b.table) p.0 c.from_residual.result before a p.1
 
 pub returns-in-Cgb-clause-outcome : goal.returns-in-Cgb-clause-outcome
 returns-in-Cgb-clause-outcome g c =
