@@ -1,5 +1,5 @@
 -- Octets in a row, cut by the sizes of their messages.
-use Rattle.std.proofs.Common.{◌≡◌, ℕ, zero, suc, ◌+◌, ◌-◌, ◌<◌, ◌≤◌, get_or, List, [], ◌∷◌, ◌++◌, length, take, drop, Bool, true, false, cond, ltb, Some, None, Ok, Err, Option, Result, sym, refl, ap, ◌∙◌, subst, take_at, drop_at, arith}
+use Rattle.std.proofs.Common.{◌≡◌, ℕ, zero, suc, ◌+◌, ◌-◌, ◌<◌, ◌≤◌, get_or, List, [], ◌∷◌, ◌++◌, length, take, drop, Bool, true, false, cond, ltb, Some, None, Ok, Err, Option, Result, sym, refl, ap, ◌∙◌, take_at, arith}
 use borrow.Rule.Slice.PartMut.{post_of}
 use Rattle.message.specs.Encode.{leaves, written, unless_refused}
 use Rattle.message.specs.declared.fault.MessageFault.{MessageFault}

@@ -1,5 +1,5 @@
 -- Receiving alone empties both lines.
-use Rattle.std.proofs.Common.{◌≡◌, ℕ, ◌+◌, ◌<◌, ◌≤◌, not, true, List, [], ◌∷◌, ◌++◌, length, replicate, is_ok, Ok, Err, Result, sym, refl, ap, ◌∙◌, subst, arith}
+use Rattle.std.proofs.Common.{◌≡◌, ℕ, ◌+◌, ◌<◌, ◌≤◌, not, true, List, ◌++◌, length, replicate, is_ok, Ok, Err, sym, refl, ap, ◌∙◌, subst, arith}
 use Rattle.std.proofs.Math.Logic.{∥∥₁_elim}
 use Rattle.std.proofs.Props.{props}
 use Rattle.std.proofs.lemmas.Bool.{false≢true}
@@ -7,16 +7,14 @@ use Rattle.std.proofs.lemmas.List.{length-replicate}
 use Rattle.told.specs.declared.kinds.Word.{Word}
 use Rattle.supervision.specs.declared.trunk.Config.{Config}
 use Rattle.supervision.specs.Moves.{words_of}
-use Rattle.refusal.specs.declared.reasons.Refusal.{Refusal}
 use Rattle.supervision.specs.Receiving.{receiving}
 use Rattle.agreement.specs.Agreeing.{AreTaken}
 use Rattle.agreement.specs.Reading.{read}
-use Rattle.agreement.specs.Runs as runs
-use Rattle.agreement.specs.Runs.{State, trunk}
+use Rattle.agreement.specs.Runs.{trunk}
 use Rattle.agreement.specs.Settling as later
 use Rattle.agreement.specs.Settling.{Later}
 use Rattle.agreement.proofs.Settled.{settles}
-use Rattle.interworking.specs.Exchanges.{Exchange, Moved, lends, with_line}
+use Rattle.interworking.specs.Exchanges.{Exchange, lends}
 use Rattle.interworking.specs.Runs.{Reached, Agrees, state}
 use Rattle.interworking.specs.Settling.{Receives, none, one_more, into, most_receives}
 use Rattle.interworking.specs.Stepping.{Received, Stepped}

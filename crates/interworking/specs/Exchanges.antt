@@ -1,5 +1,5 @@
 -- An exchange as the contracts see it, and what an accepted operation makes of it.
-use Rattle.std.specs.Prelude.{◌≡◌, ℕ, Bool, List, [], ◌∷◌, ◌++◌, map, length, replicate, Ok, Err, Result}
+use Rattle.std.specs.Prelude.{◌≡◌, ℕ, Bool, List, ◌++◌, map, length, replicate, Ok, Result}
 use Rattle.message.specs.Encode.{encode}
 use Rattle.circuit.specs.declared.record.Circuit.{Circuit}
 use Rattle.told.specs.Words.{number_of}

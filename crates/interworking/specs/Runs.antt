@@ -1,6 +1,5 @@
 -- Two exchanges that some run led to, and what is promised of them.
-use Rattle.std.specs.Prelude.{◌≡◌, ℕ, Bool, not, List, map}
-use Rattle.status.specs.declared.circuit.Cic.{Cic}
+use Rattle.std.specs.Prelude.{◌≡◌, ℕ, not, List, map}
 use Rattle.told.specs.Words.{number_of}
 use Rattle.told.specs.declared.kinds.Word.{Word}
 use Rattle.agreement.specs.Agreeing.{Promised}
