@@ -1,4 +1,6 @@
 // Steps by chance, from a seed.
+ghost use Rattle.std.specs.Prelude.{◌<◌};
+
 use interworking::{Side, Step};
 use message::CallKind;
 use status::Cic;
