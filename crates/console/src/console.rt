@@ -2,14 +2,14 @@
 ghost use Rattle.std.specs.Prelude.{IfOk};
 ghost use Rattle.console.specs.Opened.{Opened};
 
-use crate::order::{Opening, Order};
+use crate::order::{Event, Opening, Order};
 use crate::wording::Answer;
 use circuit::Circuit;
 use refusal::Refusal;
 use status::Cic;
 use std::alloc::{AllocError, Global};
 use supervision::{MOST_SYSTEMS, OCTETS, SLOTS, Trunk, WORDS};
-use terminal::{Operation, Selection};
+use terminal::{Expiry, Selection};
 
 // An open trunk with its policy.
 #[derive(Clone, Copy)]
@@ -46,14 +46,24 @@ impl OpenTrunk {
     // Does an operation; how many words and octets it wrote.
     fn operate(
         &mut self,
-        operation: &Operation,
+        event: &Event,
         table: &mut [Circuit],
         words: &mut [u32],
         octets: &mut [u8],
     ) -> Result<(usize, usize), Refusal> {
         let trunk = self.trunk;
         let policy = &mut self.selection;
-        trunk.order(operation.as_order(), table, policy, words, octets)
+        match event {
+            Event::Ordered(operation) => {
+                trunk.order(operation.as_order(), table, policy, words, octets)
+            }
+            Event::Received(received) => {
+                trunk.receive(received.as_slice(), table, policy, words, octets)
+            }
+            Event::Expired(Expiry { timer, at, kind }) => {
+                trunk.expire(*timer, *at, *kind, table, policy, words, octets)
+            }
+        }
     }
 }
 
@@ -71,7 +81,7 @@ impl Console {
         match order {
             Order::Open(opening) => self.open(heap, &opening),
             Order::Show(cic) => Ok(self.show(cic)),
-            Order::Operate(operation) => Ok(self.operate(&operation)),
+            Order::Operate(event) => Ok(self.operate(&event)),
         }
     }
 
@@ -105,12 +115,12 @@ impl Console {
         }
     }
 
-    fn operate(&mut self, operation: &Operation) -> Answer {
+    fn operate(&mut self, event: &Event) -> Answer {
         let Some(mut open) = self.open else {
             return Answer::NotUnderstood;
         };
         let table = self.table.as_mut_slice();
-        let done = open.operate(operation, table, &mut self.words, &mut self.octets);
+        let done = open.operate(event, table, &mut self.words, &mut self.octets);
         self.open = Some(open);
         match done {
             Ok((words, octets)) => Answer::Done(words, octets),

@@ -1,4 +1,5 @@
-// A console for a trunk: orders on standard input, one to a line, and on standard output what each did.
+// A console for a trunk: orders, received messages and expiries on standard input, one to a line,
+// and on standard output what each did.
 #![tactic(auto)]
 
 mod console;

@@ -2,7 +2,8 @@
 use status::Cic;
 use std::alloc::{AllocError, Global};
 use terminal::{
-    Method, Operation, decimal_cic, read_equipment, read_method, read_operation, words_of,
+    Expiry, Method, Operation, decimal_cic, read_equipment, read_expiry, read_method, read_octets,
+    read_operation, words_of,
 };
 
 // A trunk to open.
@@ -16,11 +17,20 @@ pub struct Opening {
     pub equipment: Vec<u32>,
 }
 
+// What an open trunk is given.
+#[derive(Drop)]
+pub enum Event {
+    Ordered(Operation),
+    // the octets of a message from the far exchange
+    Received(Vec<u8>),
+    Expired(Expiry),
+}
+
 #[derive(Drop)]
 pub enum Order {
     Open(Opening),
     Show(Cic),
-    Operate(Operation),
+    Operate(Event),
 }
 
 // The order of a line, or `None` where there is no such order.
@@ -31,7 +41,15 @@ pub(crate) fn read_order(heap: Global, line: &[u8]) -> Result<Option<Order>, All
             read_opening(heap, first, side, method, equipment)
         }
         [b"show", cic] => Ok(read_show(cic)),
-        others => Ok(read_operation(heap, others)?.map(Order::Operate)),
+        others => Ok(read_event(heap, others)?.map(Order::Operate)),
+    }
+}
+
+fn read_event(heap: Global, words: &[&[u8]]) -> Result<Option<Event>, AllocError> {
+    match words {
+        [b"receive", octets @ ..] => Ok(read_octets(heap, octets)?.map(Event::Received)),
+        [b"expire", numbers @ ..] => Ok(read_expiry(numbers).map(Event::Expired)),
+        others => Ok(read_operation(heap, others)?.map(Event::Ordered)),
     }
 }
 
