@@ -2,14 +2,14 @@
 ghost use Rattle.std.specs.Prelude.{IfOk};
 ghost use Rattle.console.specs.Opened.{Opened};
 
-use crate::order::{Event, Opening, Order};
+use crate::order::{Opening, Order};
 use crate::wording::Answer;
 use circuit::Circuit;
 use refusal::Refusal;
 use status::Cic;
 use std::alloc::{AllocError, Global};
 use supervision::{MOST_SYSTEMS, OCTETS, SLOTS, Trunk, WORDS};
-use terminal::{Expiry, Selection};
+use terminal::{Event, Selection};
 
 // An open trunk with its policy.
 #[derive(Clone, Copy)]
@@ -41,29 +41,6 @@ impl OpenTrunk {
             &mut selection,
         )?;
         Ok(OpenTrunk { trunk, selection })
-    }
-
-    // Does an operation; how many words and octets it wrote.
-    fn operate(
-        &mut self,
-        event: &Event,
-        table: &mut [Circuit],
-        words: &mut [u32],
-        octets: &mut [u8],
-    ) -> Result<(usize, usize), Refusal> {
-        let trunk = self.trunk;
-        let policy = &mut self.selection;
-        match event {
-            Event::Ordered(operation) => {
-                trunk.order(operation.as_order(), table, policy, words, octets)
-            }
-            Event::Received(received) => {
-                trunk.receive(received.as_slice(), table, policy, words, octets)
-            }
-            Event::Expired(Expiry { timer, at, kind }) => {
-                trunk.expire(*timer, *at, *kind, table, policy, words, octets)
-            }
-        }
     }
 }
 
@@ -120,7 +97,8 @@ impl Console {
             return Answer::NotUnderstood;
         };
         let table = self.table.as_mut_slice();
-        let done = open.operate(event, table, &mut self.words, &mut self.octets);
+        let policy = &mut open.selection;
+        let done = event.play(open.trunk, table, policy, &mut self.words, &mut self.octets);
         self.open = Some(open);
         match done {
             Ok((words, octets)) => Answer::Done(words, octets),

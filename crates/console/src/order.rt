@@ -1,10 +1,7 @@
 // Orders to the console, as they are written on a line.
 use status::Cic;
 use std::alloc::{AllocError, Global};
-use terminal::{
-    Expiry, Method, Operation, decimal_cic, read_equipment, read_expiry, read_method, read_octets,
-    read_operation, words_of,
-};
+use terminal::{Event, Method, decimal_cic, read_equipment, read_event, read_method, words_of};
 
 // A trunk to open.
 #[derive(Drop)]
@@ -15,15 +12,6 @@ pub struct Opening {
     pub method: Method,
     // a word for each PCM system
     pub equipment: Vec<u32>,
-}
-
-// What an open trunk is given.
-#[derive(Drop)]
-pub enum Event {
-    Ordered(Operation),
-    // the octets of a message from the far exchange
-    Received(Vec<u8>),
-    Expired(Expiry),
 }
 
 #[derive(Drop)]
@@ -42,14 +30,6 @@ pub(crate) fn read_order(heap: Global, line: &[u8]) -> Result<Option<Order>, All
         }
         [b"show", cic] => Ok(read_show(cic)),
         others => Ok(read_event(heap, others)?.map(Order::Operate)),
-    }
-}
-
-fn read_event(heap: Global, words: &[&[u8]]) -> Result<Option<Event>, AllocError> {
-    match words {
-        [b"receive", octets @ ..] => Ok(read_octets(heap, octets)?.map(Event::Received)),
-        [b"expire", numbers @ ..] => Ok(read_expiry(numbers).map(Event::Expired)),
-        others => Ok(read_operation(heap, others)?.map(Event::Ordered)),
     }
 }
 

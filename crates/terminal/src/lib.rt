@@ -2,6 +2,7 @@
 #![tactic(auto)]
 
 mod cutting;
+mod event;
 mod methods;
 mod numerals;
 mod operation;
@@ -9,6 +10,7 @@ mod selection;
 mod wording;
 
 pub use cutting::{read_equipment, read_octets, words_of};
+pub use event::{Event, read_event};
 pub use methods::{Method, read_method};
 pub use numerals::{decimal, decimal_cic, decimal_octet, hex_octet, hex_word};
 pub use operation::{Expiry, Operation, Slots, read_expiry, read_operation};
