@@ -1,5 +1,5 @@
 // Runs that were played by hand from the rules.
-use circuit::{LocalBlock, Reset};
+use circuit::{Circuit, LocalBlock, Reset};
 use interworking::{Bench, Fault, Side, Step};
 use message::CallKind;
 use policy::{End, Sequential};
@@ -18,13 +18,23 @@ fn open(alloc: Global) -> Result<Pair, Fault> {
     Bench::open(alloc, Cic(0), &[0xffff_fffe], true, near, far)
 }
 
+// A circuit of a table.
+fn at(table: &[Circuit], place: usize) -> Option<Circuit> {
+    table.get(place).copied()
+}
+
+// All words that an exchange told.
+fn told(bench: &Pair, side: Side) -> &[u32] {
+    match side {
+        Side::Near => bench.near().told(),
+        Side::Far => bench.far().told(),
+    }
+}
+
 // Takes a step; whether it told just these words.
 fn tells(bench: &mut Pair, side: Side, step: Step<'_>, words: &[u32]) -> Result<bool, Fault> {
     let count = bench.step(side, step)?;
-    let told = match side {
-        Side::Near => bench.near().told(),
-        Side::Far => bench.far().told(),
-    };
+    let told = told(&*bench, side);
     Ok(count == words.len() && &told[told.len().saturating_sub(count)..] == words)
 }
 
@@ -62,8 +72,8 @@ fn crossing(rt: HostRuntime) -> Result<(), Fail> {
         assert!(rt; tells(&mut bench, *side, *step, words)?);
     }
     assert!(rt; bench.near().line().is_empty() && bench.far().line().is_empty());
-    assert!(rt; bench.near().table()[1].far.maintenance);
-    assert_eq!(rt; bench.far().table()[1].local.maintenance, LocalBlock::Set);
+    assert!(rt; at(bench.near().table(), 1).is_some_and(|c| c.far.maintenance));
+    assert!(rt; at(bench.far().table(), 1).is_some_and(|c| c.local.maintenance == LocalBlock::Set));
     assert_eq!(rt;
         bench.step(Side::Near, release),
         Err(Fault::Refused(Refusal::State))
@@ -112,10 +122,12 @@ fn settling(rt: HostRuntime) -> Result<(), Fail> {
     assert_eq!(rt; bench.most_receives(), 42);
     assert_eq!(rt; bench.settle(), Ok(16));
     assert!(rt; bench.receiver().is_none());
-    assert_eq!(rt; bench.near().table()[3].local.hardware, LocalBlock::Set);
-    assert!(rt; bench.far().table()[17].far.hardware);
-    assert_eq!(rt; bench.near().table()[5].local.maintenance, LocalBlock::None);
-    assert_eq!(rt; bench.far().table()[7].reset, Reset::None);
+    assert!(rt; at(bench.near().table(), 3).is_some_and(|c| c.local.hardware == LocalBlock::Set));
+    assert!(rt; at(bench.far().table(), 17).is_some_and(|c| c.far.hardware));
+    assert!(rt;
+        at(bench.near().table(), 5).is_some_and(|c| c.local.maintenance == LocalBlock::None)
+    );
+    assert!(rt; at(bench.far().table(), 7).is_some_and(|c| c.reset == Reset::None));
     Ok(())
 }
 
