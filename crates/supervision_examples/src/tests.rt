@@ -1,5 +1,5 @@
 // Worked examples on real tables and policies.
-use circuit::{Call, Circuit};
+use circuit::{Call, Circuit, LocalBlock};
 use policy::{End, Place, Policy, Sequential};
 use refusal::Refusal;
 use status::Cic;
@@ -34,6 +34,16 @@ impl Exchange {
     fn seize(&mut self, body: &[u8]) -> Result<(usize, usize), Refusal> {
         self.trunk.seize(
             body,
+            &mut self.table,
+            &mut self.policy,
+            &mut self.words,
+            &mut self.octets,
+        )
+    }
+
+    fn receive(&mut self, received: &[u8]) -> Result<(usize, usize), Refusal> {
+        self.trunk.receive(
+            received,
             &mut self.table,
             &mut self.policy,
             &mut self.words,
@@ -94,6 +104,63 @@ fn bodies(rt: HostRuntime) -> Result<(), Fail> {
     let mut at = Exchange::open()?;
     assert_eq!(rt; at.seize(&[0; 257]), Err(Refusal::Argument));
     assert_eq!(rt; at.seize(&[0; 256]), Ok((2, 259)));
+    Ok(())
+}
+
+#[test]
+fn incoming_call(rt: HostRuntime) -> Result<(), Fail> {
+    let mut at = Exchange::open()?;
+    assert_eq!(rt; at.receive(&[0x06, 0x00, 0x01, 0x0a])?, (1, 0));
+    assert_eq!(rt; at.words[0], 0x2000_1006);
+    let wrote = at.receive(&[0x06, 0x00, 0x0c, 0x02, 0x00, 0x02, 0x84, 0x90])?;
+    assert_eq!(rt; wrote, (2, 4));
+    assert_eq!(rt; at.words[0], 0x3000_1006);
+    assert_eq!(rt; at.words[1], 0x1000_0004);
+    assert_eq!(rt; at.octets.first_chunk(), Some(&[0x06, 0x00, 0x10, 0x00]));
+    Ok(())
+}
+
+#[test]
+fn group_reset_of_a_blocked_circuit(rt: HostRuntime) -> Result<(), Fail> {
+    let mut at = Exchange::open()?;
+    at.table[3].local.maintenance = LocalBlock::Set;
+    let wrote = at.receive(&[0x01, 0x00, 0x17, 0x01, 0x01, 0x1e])?;
+    assert_eq!(rt; wrote, (1, 10));
+    assert_eq!(rt;
+        at.octets.first_chunk(),
+        Some(&[0x01, 0x00, 0x29, 0x01, 0x05, 0x1e, 0x04, 0x00, 0x00, 0x00])
+    );
+    Ok(())
+}
+
+#[test]
+fn block_not_acknowledged(rt: HostRuntime) -> Result<(), Fail> {
+    let mut at = Exchange::open()?;
+    at.table[5].local.maintenance = LocalBlock::Asked;
+    let wrote = at.trunk.expire(
+        13,
+        5,
+        0,
+        &mut at.table,
+        &mut at.policy,
+        &mut at.words,
+        &mut at.octets,
+    )?;
+    assert_eq!(rt; wrote, (2, 3));
+    assert_eq!(rt; at.words[0], 0x1000_0003);
+    assert_eq!(rt; at.words[1], 0x4000_d005);
+    assert_eq!(rt; at.octets.first_chunk(), Some(&[0x05, 0x00, 0x13]));
+    Ok(())
+}
+
+#[test]
+fn message_refused(rt: HostRuntime) -> Result<(), Fail> {
+    let mut at = Exchange::open()?;
+    assert_eq!(rt; at.receive(&[0x05, 0x00]), Err(Refusal::Short));
+    assert_eq!(rt;
+        at.receive(&[0x05, 0x00, 0x2a]),
+        Err(Refusal::Unknown(0x2a))
+    );
     Ok(())
 }
 
