@@ -1,4 +1,5 @@
-// What the console holds: the open trunk, its table and its policy, and the outputs of its operations.
+// What the console holds: the open trunk, its table and its policy, and the outputs of its
+// operations.
 ghost use Rattle.std.specs.Prelude.{IfOk};
 ghost use Rattle.console.specs.Opened.{Opened};
 

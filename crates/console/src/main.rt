@@ -62,8 +62,8 @@ fn run(rt: &HostRuntime) -> io::Result<()> {
     let mut out = BufWriter::new(rt.alloc(), rt.stdout())?;
     let mut line = Vec::new(rt.alloc());
     let mut console = Console::new(rt.alloc());
-    // A count, since each loop is proved to end. `split` would not tell whether the last line had its line feed. What
-    // three programs have alike here are two calls of the library.
+    // A count, since each loop is proved to end. `split` would not tell whether the last line had
+    // its line feed. What three programs have alike here are two calls of the library.
     for _ in 0..u64::MAX {
         line.clear();
         if input.read_until(b'\n', &mut line)? == 0 {

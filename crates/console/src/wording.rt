@@ -11,7 +11,8 @@ use terminal::{OrNone, Standing, Told};
 // What an order is answered. It has more cases than a Result.
 #[derive(Clone, Copy)]
 pub enum Answer {
-    // how many words and octets the outputs then have, which stay in the console and are lent to each operation
+    // how many words and octets the outputs then have, which stay in the console and are lent to
+    // each operation
     Done(usize, usize),
     Shown(Cic, Circuit),
     Refused(Refusal),

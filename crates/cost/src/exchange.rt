@@ -57,8 +57,8 @@ impl Exchange {
         Ok(saved)
     }
 
-    // Plays events so many times, each time on circuits as they were saved, with the policy as it stands; how many words
-    // and octets the last of them wrote.
+    // Plays events so many times, each time on circuits as they were saved, with the policy as it
+    // stands; how many words and octets the last of them wrote.
     pub(crate) fn repeat(
         &mut self,
         events: &[Event],

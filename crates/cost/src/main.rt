@@ -1,5 +1,6 @@
-// Plays events on a trunk of so many PCM systems: those before the line `repeat` once, those after it so many times, from
-// the same circuits each time. It writes nothing in between, so that the instructions of an operation can be counted.
+// Plays events on a trunk of so many PCM systems: those before the line `repeat` once, those after
+// it so many times, from the same circuits each time. It writes nothing in between, so that the
+// instructions of an operation can be counted.
 #![tactic(auto)]
 
 mod exchange;

@@ -11,7 +11,8 @@ use supervision::Order;
 
 type Pair = Bench<Sequential, Sequential>;
 
-// One PCM system from CIC 0 on, all time slots but 0. The near exchange has the higher point code; both take the lowest open circuit.
+// One PCM system from CIC 0 on, all time slots but 0. The near exchange has the higher point code;
+// both take the lowest open circuit.
 fn open(alloc: Global) -> Result<Pair, Fault> {
     let near = Sequential::new(End::Low);
     let far = Sequential::new(End::Low);
@@ -38,7 +39,8 @@ fn tells(bench: &mut Pair, side: Side, step: Step<'_>, words: &[u32]) -> Result<
     Ok(count == words.len() && &told[told.len().saturating_sub(count)..] == words)
 }
 
-// Both seize CIC 1, which the far exchange controls; later a block of it crosses the release of the call.
+// Both seize CIC 1, which the far exchange controls; later a block of it crosses the release of the
+// call.
 #[test]
 fn crossing(rt: HostRuntime) -> Result<(), Fail> {
     let mut bench = open(rt.alloc())?;
@@ -117,8 +119,8 @@ fn settling(rt: HostRuntime) -> Result<(), Fail> {
     for (side, step, words) in &steps {
         assert!(rt; tells(&mut bench, *side, *step, words)?);
     }
-    // three receives at the near exchange, of which two answer with one message and one with two; then eight at the far
-    // one, of which five are answered
+    // three receives at the near exchange, of which two answer with one message and one with two;
+    // then eight at the far one, of which five are answered
     assert_eq!(rt; bench.most_receives(), 42);
     assert_eq!(rt; bench.settle(), Ok(16));
     assert!(rt; bench.receiver().is_none());

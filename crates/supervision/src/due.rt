@@ -94,7 +94,8 @@ impl Due<'_> {
         n >= start && self.is_at(Place(from.0 + n as usize), table)
     }
 
-    // A bit for each of the 32 places from `from` on, set where one of them is, and none below bit `start`.
+    // A bit for each of the 32 places from `from` on, set where one of them is, and none below bit
+    // `start`.
     pub(crate) fn bits(self, from: Place, start: u32, table: &[Circuit]) -> u32
         requires { from.0 < 4096 }
         ensures { result ≡ due_bits self.entry from.0 start table.now }

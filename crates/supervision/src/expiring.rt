@@ -31,7 +31,8 @@ use refusal::Refusal;
 use status::Cic;
 use told::Timer;
 
-// Sends a message once more, with the alert that there may be; how many words and octets that takes.
+// Sends a message once more, with the alert that there may be; how many words and octets that
+// takes.
 fn repeat(
     message: Message<'_>,
     timer: Option<Timer>,
@@ -212,7 +213,8 @@ impl Trunk {
         Ok(alert(Timer::T5, cic, written, words))
     }
 
-    // A group message of a type, given as its number: of blocks that are asked, or of blocks that are lifting.
+    // A group message of a type, given as its number: of blocks that are asked, or of blocks that
+    // are lifting.
     fn repeat_blocks(
         self,
         system: usize,
@@ -240,7 +242,8 @@ impl Trunk {
         self.repeat_group(system, what, why, condition, timer, table, words, octets)
     }
 
-    // A timer expires, for a CIC or a PCM system as the timer asks, and a type where it has one.
+    // A timer expires, for a CIC or a PCM system as the timer asks, and a type, 0 maintenance or 1
+    // hardware, where it has one. Refused by 2, 3, 8 and 9, and T5 by 10 too.
     pub fn expire<P: Policy>(
         self,
         timer: u8,

@@ -137,7 +137,8 @@ impl Trunk {
         self.order_group(system, mask, rule, what, why, table, policy, words, octets)
     }
 
-    // Blocks the circuits of a mask: type 0 for maintenance, 1 for hardware, which ends their calls.
+    // Blocks the circuits of a mask: type 0 for maintenance, 1 for hardware, which ends their
+    // calls.
     pub fn group_block<P: Policy>(
         self,
         kind: u8,

@@ -76,7 +76,8 @@ fn offer_open<P: Policy>(table: &[Circuit], policy: &mut P)
 }
 
 impl Trunk {
-    // Opens a trunk. The equipment has a word for each PCM system: bit k says that time slot k is a circuit.
+    // Opens a trunk. The equipment has a word for each PCM system: bit k says that time slot k is a
+    // circuit.
     pub fn open<P: Policy>(
         first: Cic,
         equipment: &[u32],

@@ -18,7 +18,8 @@ pub enum Order<'a> {
     Block(Cic),
     Unblock(Cic),
     Reset(Cic),
-    // with the type, the PCM system and the mask
+    // with the type, 0 maintenance or 1 hardware, the PCM system and the mask, whose bit k is time
+    // slot k
     GroupBlock { kind: u8, system: usize, mask: u32 },
     GroupUnblock { kind: u8, system: usize, mask: u32 },
     // with the PCM system
@@ -26,7 +27,7 @@ pub enum Order<'a> {
 }
 
 impl Trunk {
-    // Does an order.
+    // Does an order. Refused by 2, 3 and 8 to 12, as the order is.
     pub fn order<P: Policy>(
         self,
         order: Order<'_>,

@@ -107,17 +107,21 @@ fn reply(
 }
 
 impl Trunk {
-    // The circuits of a message for a range: none past the table, and none named that is not equipped.
+    // The circuits of a message for a range: none past the table, and none named that is not
+    // equipped.
     fn span<'a>(self, cic: Cic, group: Group<'a>, table: &[Circuit]) -> Result<Slots<'a>, Refusal>
         requires { length table.now ≡ places self.config }
         ensures value { result
             ≡ unless (not (is_range self.config cic.0 group.entry.range.0)) Address
             (unless
             (some_from
-            (λ k c. marked self.config cic.0 group.entry.range.0 group.entry.status.now k && not c.equipped) 0
+            (λ k c.
+            marked self.config cic.0 group.entry.range.0 group.entry.status.now k
+            && not c.equipped) 0
             table.now)
             Address
-            (Ok (record { first = record { 0 = cic.0 - self.config.first.0 }; group = group.entry }))) }
+            (Ok
+            (record { first = record { 0 = cic.0 - self.config.first.0 }; group = group.entry }))) }
         ensures inside { IfOk result
             (λ slots. (self.config.first.0 ≤ cic.0)
             × (slots.first.0 + slots.group.range.0 < length table.now)) }
@@ -163,7 +167,8 @@ impl Trunk {
         Ok(reply(cic, signal, circuit, (told, 0), words, octets))
     }
 
-    // RSC: besides its effect and the answer at once, a hardware block that stands is asked again, and RLC is sent.
+    // RSC: besides its effect and the answer at once, a hardware block that stands is asked again,
+    // and RLC is sent.
     fn hear_reset<P: Policy>(
         self,
         cic: Cic,
@@ -196,7 +201,8 @@ impl Trunk {
         Ok(send(Message::ReleaseComplete(cic), written, words, octets))
     }
 
-    // CGB, CGU, CGBA, CGUA: the effect at each circuit whose bit is set, and one answer, or one for each PCM system.
+    // CGB, CGU, CGBA, CGUA: the effect at each circuit whose bit is set, and one answer, or one for
+    // each PCM system.
     fn hear_group<P: Policy>(
         self,
         cic: Cic,
@@ -255,8 +261,8 @@ impl Trunk {
         }
     }
 
-    // GRS: each circuit of the range is reset; hardware blocks that stand are asked again, and GRA shows maintenance
-    // blocks that stand.
+    // GRS: each circuit of the range is reset; hardware blocks that stand are asked again, and GRA
+    // shows maintenance blocks that stand.
     fn hear_group_reset<P: Policy>(
         self,
         cic: Cic,
@@ -298,7 +304,8 @@ impl Trunk {
         Ok(send(answer, written, words, octets))
     }
 
-    // GRA: where it counts, group resets of the range end, and status bits become far maintenance blocks.
+    // GRA: where it counts, group resets of the range end, and status bits become far maintenance
+    // blocks.
     fn hear_group_reset_ack<P: Policy>(
         self,
         cic: Cic,
@@ -382,7 +389,8 @@ impl Trunk {
         }
     }
 
-    // Receives the octets of a message.
+    // Receives the octets of one message from the far exchange. Refused by 2 to 7 and 9; the host
+    // sends what it answers in the order of the words.
     pub fn receive<P: Policy>(
         self,
         received: &[u8],

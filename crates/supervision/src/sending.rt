@@ -1,4 +1,5 @@
-// Messages of ours for the circuits of PCM systems, and the alert, written after what an operation wrote already.
+// Messages of ours for the circuits of PCM systems, and the alert, written after what an operation
+// wrote already.
 ghost use Rattle.std.specs.Prelude.{◌≡◌, ◌+◌, ◌<◌, ◌≤◌, List, ℕ, length, Some};
 ghost use Rattle.supervision.specs.Due.{is_due};
 ghost use Rattle.supervision.specs.Expiring.{alerting};

@@ -6,8 +6,8 @@ use status::Cic;
 use std::test::Fail;
 use supervision::{OCTETS, SLOTS, Trunk, WORDS};
 
-// An exchange with one PCM system from CIC 0 on, all time slots but 0, the higher point code, lowest circuit first.
-// Operations are lent arrays, since they have no heap.
+// An exchange with one PCM system from CIC 0 on, all time slots but 0, the higher point code,
+// lowest circuit first. Operations are lent arrays, since they have no heap.
 #[derive(Drop)]
 struct Exchange {
     trunk: Trunk,

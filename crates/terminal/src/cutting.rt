@@ -32,7 +32,7 @@ pub fn read_octets(heap: Global, words: &[&[u8]]) -> Result<Option<Vec<u8>>, All
     read_all(heap, words, hex_octet)
 }
 
-// Equipment words.
+// Equipment words, each of 1 to 8 hexadecimal digits.
 pub fn read_equipment(heap: Global, words: &[&[u8]]) -> Result<Option<Vec<u32>>, AllocError> {
     read_all(heap, words, hex_word)
 }

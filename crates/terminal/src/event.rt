@@ -1,4 +1,5 @@
-// What an exchange is given: orders of our side, messages from the far exchange, timers that expire.
+// What an exchange is given: orders of our side, messages from the far exchange, timers that
+// expire.
 use crate::cutting::read_octets;
 use crate::operation::{Expiry, Operation, read_expiry, read_operation};
 use circuit::Circuit;

@@ -1,4 +1,5 @@
-// What a terminal of an exchange reads and writes: orders on a line, the method of selection, and what is told in words.
+// What a terminal of an exchange reads and writes: orders on a line, the method of selection, and
+// what is told in words.
 #![tactic(auto)]
 
 mod cutting;

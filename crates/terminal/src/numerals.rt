@@ -1,5 +1,5 @@
-// Numbers as they are written in orders, which are cut into words first. Each kind is one conversion of the library, so a
-// generic one would save nothing.
+// Numbers as they are written in orders, which are cut into words first. Each kind is one
+// conversion of the library, so a generic one would save nothing.
 ghost use Rattle.std.specs.Prelude.{◌≡◌, ◌^◌, ◌<◌, ◌≤◌, length};
 ghost use Rattle.std.specs.Option.{SomeIff};
 ghost use Rattle.std.specs.Str.Parse.{IsNumeral, digits_value};
@@ -57,7 +57,7 @@ pub fn hex_word(word: &[u8]) -> Option<u32>
     u32::try_from(number(word, 16)?).ok()
 }
 
-// An octet of a body: two hexadecimal digits.
+// An octet: two hexadecimal digits.
 pub fn hex_octet(word: &[u8]) -> Option<u8>
     ensures { SomeIff result (IsNumeral 16 word.now × (length word.now ≡ 2))
         (digits_value 16 word.now) }

@@ -1,4 +1,5 @@
-// A policy of either method. An enum and no `dyn`, since a policy states its number of places as a constant.
+// A policy of either method. An enum and no `dyn`, since a policy states its number of places as a
+// constant.
 ghost use Rattle.terminal.specs.Selections.{held_by, held_by-length, obeys_by, picks_by, made_by};
 ghost use Rattle.std.specs.Prelude.{◌≡◌, false, replicate};
 
