@@ -2,7 +2,6 @@
 #![tactic(auto)]
 
 ghost use Rattle.supervision_examples.specs.Sessions.{Sessions};
-ghost use Rattle.supervision_examples.specs.Shown.{ReceivedLawful, ExpiredLawful};
 
 #[cfg(test)]
 mod tests;
@@ -10,10 +9,4 @@ mod tests;
 // The worked sessions follow from the definitions.
 pub fn sessions()
     ensures { Sessions }
-{}
-
-// Received messages and expiries keep the laws of every operation.
-pub fn laws()
-    ensures received { ReceivedLawful }
-    ensures expired { ExpiredLawful }
 {}
