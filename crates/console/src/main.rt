@@ -63,7 +63,7 @@ fn run(rt: &HostRuntime) -> io::Result<()> {
     let mut line = Vec::new(rt.alloc());
     let mut console = Console::new(rt.alloc());
     // A count, since each loop is proved to end. `split` would not tell whether the last line had
-    // its line feed. What three programs have alike here are two calls of the library.
+    // its line feed. What these programs have alike here are two calls of the library.
     for _ in 0..u64::MAX {
         line.clear();
         if input.read_until(b'\n', &mut line)? == 0 {
