@@ -97,7 +97,8 @@ impl Line {
         self.octets.reserve(octets)
     }
 
-    // Puts messages on it whose octets were written in a row, as the words say that were told with them.
+    // Puts messages on it whose octets were written in a row, as the words say that were told with
+    // them.
     #[tactic(auto, using(crate::proofs::Cuts::messages_append))]
     pub(crate) fn post(&mut self, words: &[u32], octets: &[u8])
         requires messages { vec_len self.old.sizes + length words.now
