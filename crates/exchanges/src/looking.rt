@@ -8,13 +8,12 @@ use told::{Direction, Word};
 // What was seen not to hold.
 #[derive(Clone, Copy, PartialEq, Eq, Debug)]
 pub enum Broken {
-    // a local block stands at one end, and the other end knows nothing of it, or the other way
-    // round
+    // a local block stands at one end and is not known at the other, or is known and does not stand
     Blocks(Cic),
     // begun and ended words do not take turns, or the circuit is engaged where the last of them is
     // no begun, or the other way round
     Turns(Cic),
-    // a seizure was refused where a circuit was open, or accepted where none was
+    // a seizure was refused where a circuit was open, or by 12, or accepted where none was
     Seizure,
     // a seizure took a circuit that was not open
     Taken(Cic),
@@ -34,7 +33,7 @@ impl fmt::Display for Broken {
             Broken::Turns(cic) => write!(f, "begun and ended do not take turns on circuit {cic}"),
             Broken::Seizure => write!(
                 f,
-                "a seizure is accepted without an open circuit, or refused with one"
+                "a seizure is accepted without an open circuit, or refused with one or by 12"
             ),
             Broken::Taken(cic) => write!(f, "a seizure takes circuit {cic}, which was not open"),
             Broken::Message => write!(f, "a message on a line is refused"),

@@ -26,6 +26,7 @@ pub struct Watch {
     far: Calls,
 }
 
+// The calls of an end, before its words are followed.
 fn calls_of<P: Policy>(heap: Global, end: &End<P>) -> Result<Calls, AllocError> {
     Calls::new(heap, end.config().first, end.table().len())
 }
@@ -126,8 +127,8 @@ impl Watch {
     }
 }
 
-// Whether a seizure was accepted exactly if a circuit was open, and refused by nothing else than
-// that none was, and a message on a line was not refused.
+// Whether a seizure was accepted exactly if a circuit was open, and not refused by 12, and a message
+// on a line was not refused.
 pub fn look_at_answer(step: Step<'_>, open: bool, took: Result<usize, Fault>) -> Option<Broken> {
     match (step, took) {
         (_, Err(Fault::Memory)) => None,

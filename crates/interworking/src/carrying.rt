@@ -117,7 +117,8 @@ impl Line {
         requires cic { cic.0 < 4096 }
         requires body { 1 ≤ length body.now }
         ensures { carried self.new
-            ≡ carried self.old ++ (if is_ok result then encode (call cic.0 kind body.now) ∷ [] else []) }
+            ≡ carried self.old
+            ++ (if is_ok result then encode (call cic.0 kind body.now) ∷ [] else []) }
     {
         let Some(size) = body.len().checked_add(HEAD) else {
             return Err(AllocError);

@@ -23,8 +23,8 @@ pub enum Step<'a> {
     },
     // the front message of the other exchange's line
     Receive,
-    // a call message of the host's own, with a body of one octet or more; refused by 8 for an IAM or
-    // an empty body, by 9 for a CIC that is no circuit
+    // a call message of the host's own, body of one octet or more; refused by 8 for an IAM or an
+    // empty body, by 9 for a CIC that is no circuit
     Call {
         cic: Cic,
         kind: CallKind,
