@@ -3,17 +3,20 @@ use circuit::{Call, Circuit, LocalBlock};
 use status::Cic;
 use std::alloc::{AllocError, Global};
 use std::fmt;
-use told::Word;
+use told::{Direction, Word};
 
 // What was seen not to hold.
 #[derive(Clone, Copy, PartialEq, Eq, Debug)]
 pub enum Broken {
-    // a local block stands at one end, and the other end knows nothing of it, or the other way round
+    // a local block stands at one end and is not known at the other, or is known and does not stand
     Blocks(Cic),
-    // begun and ended words do not take turns, or the circuit is engaged where the last of them is no begun
+    // begun and ended words do not take turns, or the circuit is engaged where the last of them is
+    // no begun, or the other way round
     Turns(Cic),
-    // a seizure was refused where a circuit was open, or accepted where none was
+    // a seizure was refused where a circuit was open, or by 12, or accepted where none was
     Seizure,
+    // a seizure took a circuit that was not open
+    Taken(Cic),
     // a message on a line was refused
     Message,
     // something is waited for where both lines are empty
@@ -30,8 +33,9 @@ impl fmt::Display for Broken {
             Broken::Turns(cic) => write!(f, "begun and ended do not take turns on circuit {cic}"),
             Broken::Seizure => write!(
                 f,
-                "a seizure is accepted without an open circuit, or refused with one"
+                "a seizure is accepted without an open circuit, or refused with one or by 12"
             ),
+            Broken::Taken(cic) => write!(f, "a seizure takes circuit {cic}, which was not open"),
             Broken::Message => write!(f, "a message on a line is refused"),
             Broken::Rest(cic) => write!(f, "with empty lines circuit {cic} waits for an answer"),
         }
@@ -79,11 +83,14 @@ pub fn look_at_rest(first: Cic, table: &[Circuit]) -> Option<Broken> {
     None
 }
 
-// A mark for each circuit of an end: whether the last word about it was a begun.
+// Marks for each circuit of an end.
 #[derive(Drop)]
 pub struct Calls {
     first: Cic,
+    // whether the last word about it was a begun
     begun: Vec<bool>,
+    // whether it was open at the last look; before the first one all are taken to be
+    open: Vec<bool>,
 }
 
 impl Calls {
@@ -91,6 +98,7 @@ impl Calls {
         Ok(Calls {
             first,
             begun: vec![in heap; false; places]?,
+            open: vec![in heap; true; places]?,
         })
     }
 
@@ -107,17 +115,29 @@ impl Calls {
         turn
     }
 
+    // Whether a circuit was open at the last look.
+    fn was_open(&self, cic: Cic) -> bool {
+        let place = cic.0.checked_sub(self.first.0);
+        place.and_then(|place| self.open.get(place as usize)) == Some(&true)
+    }
+
     // Follows the words of a step, and compares the calls with the table then.
     pub fn look(&mut self, words: &[u32], table: &[Circuit]) -> Option<Broken> {
         for word in words {
             let (cic, begins) = match Word::try_from(*word) {
-                Ok(Word::Begun(_, cic)) => (cic, true),
-                Ok(Word::Ended(_, cic)) => (cic, false),
+                Ok(Word::Begun(direction, cic)) => (cic, Some(direction)),
+                Ok(Word::Ended(_, cic)) => (cic, None),
                 _ => continue,
             };
-            if !self.note(cic, begins) {
+            if !self.note(cic, begins.is_some()) {
                 return Some(Broken::Turns(cic));
             }
+            if begins == Some(Direction::Outgoing) && !self.was_open(cic) {
+                return Some(Broken::Taken(cic));
+            }
+        }
+        for (open, circuit) in self.open.iter_mut().zip(table) {
+            *open = circuit.is_open();
         }
         let mut cic = self.first;
         for (begun, circuit) in self.begun.iter().zip(table) {

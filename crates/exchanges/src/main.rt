@@ -1,5 +1,5 @@
-// Two exchanges over two lines: steps on standard input, one to a line, and on standard output what each did and what is on
-// the lines.
+// Two exchanges over two lines: steps on standard input, one to a line, and on standard output what
+// each did and what is on the lines.
 #![tactic(auto)]
 
 mod chance;

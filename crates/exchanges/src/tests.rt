@@ -65,6 +65,27 @@ fn turns(rt: HostRuntime) -> Result<(), Fail> {
 }
 
 #[test]
+fn taken(rt: HostRuntime) -> Result<(), Fail> {
+    let mut table = [Circuit::fresh(true); 2];
+    table[1].local.maintenance = LocalBlock::Asked;
+    let mut calls = Calls::new(rt.alloc(), Cic(0), 2)?;
+    assert_eq!(rt; calls.look(&[], &table), None);
+    table[0].call = Call::Calling;
+    assert_eq!(rt; calls.look(&[0x2000_0000], &table), None);
+    // an incoming call may begin under a block that is only asked, an outgoing one may not
+    table[1].call = Call::Talking;
+    assert_eq!(rt; calls.look(&[0x2000_1001], &table), None);
+    table[1].call = Call::Idle;
+    assert_eq!(rt; calls.look(&[0x3000_1001], &table), None);
+    table[1].call = Call::Calling;
+    assert_eq!(rt;
+        calls.look(&[0x2000_0001], &table),
+        Some(Broken::Taken(Cic(1)))
+    );
+    Ok(())
+}
+
+#[test]
 fn answers(rt: HostRuntime) {
     let seize = Step::Order(Order::Seize(&[1]));
     let none_open = Err(Fault::Refused(Refusal::NoneOpen));
@@ -75,6 +96,9 @@ fn answers(rt: HostRuntime) {
         Some(Broken::Seizure)
     );
     assert_eq!(rt; look_at_answer(seize, false, Ok(2)), Some(Broken::Seizure));
+    let choice = Err(Fault::Refused(Refusal::Choice));
+    assert_eq!(rt; look_at_answer(seize, true, choice), Some(Broken::Seizure));
+    assert_eq!(rt; look_at_answer(seize, false, choice), Some(Broken::Seizure));
     let address = Err(Fault::Refused(Refusal::Address));
     assert_eq!(rt;
         look_at_answer(Step::Receive, true, address),

@@ -3,6 +3,7 @@ use crate::chance::Chance;
 use crate::looking::{Broken, Calls, look_at_blocks, look_at_rest};
 use interworking::{Bench, End, Fault, Side, Step};
 use policy::Policy;
+use refusal::Refusal;
 use std::alloc::{AllocError, Global};
 use supervision::Order;
 use terminal::Selection;
@@ -25,11 +26,9 @@ pub struct Watch {
     far: Calls,
 }
 
-// The calls of an end so far.
+// The calls of an end, before its words are followed.
 fn calls_of<P: Policy>(heap: Global, end: &End<P>) -> Result<Calls, AllocError> {
-    let mut calls = Calls::new(heap, end.config().first, end.table().len())?;
-    let _ = calls.look(end.told(), end.table());
-    Ok(calls)
+    Calls::new(heap, end.config().first, end.table().len())
 }
 
 // Whether some circuit of an end is open.
@@ -51,7 +50,8 @@ impl Watch {
         })
     }
 
-    // Looks at the turns of the side that told so many words, and where both lines are empty at the rest.
+    // Looks at the turns of the side that told so many words, and where both lines are empty at the
+    // rest.
     fn look(
         &mut self,
         bench: &Bench<Selection, Selection>,
@@ -71,6 +71,14 @@ impl Watch {
         look_at_blocks(first, near.table(), far.table())
             .or_else(|| look_at_rest(first, near.table()))
             .or_else(|| look_at_rest(first, far.table()))
+    }
+
+    // Looks at all that was told before the stretch.
+    fn look_back(&mut self, bench: &Bench<Selection, Selection>) -> Option<Broken> {
+        let near = bench.near().told().len();
+        let far = bench.far().told().len();
+        self.look(bench, Side::Near, near)
+            .or(self.look(bench, Side::Far, far))
     }
 
     // Takes a step by chance, and counts what it came to.
@@ -107,22 +115,26 @@ impl Watch {
             accepted: 0,
             refused: 0,
             quiet: 0,
-            broken: None,
+            broken: self.look_back(bench),
         };
         for _ in 0..steps {
-            self.step(bench, &mut chance, &mut tally);
             if tally.broken.is_some() {
                 break;
             }
+            self.step(bench, &mut chance, &mut tally);
         }
         tally
     }
 }
 
-// Whether a seizure was accepted exactly if a circuit was open, and a message on a line was not refused.
+// Whether a seizure was accepted exactly if a circuit was open, and not refused by 12, and a message
+// on a line was not refused.
 pub fn look_at_answer(step: Step<'_>, open: bool, took: Result<usize, Fault>) -> Option<Broken> {
     match (step, took) {
         (_, Err(Fault::Memory)) => None,
+        (Step::Order(Order::Seize(_)), Err(Fault::Refused(Refusal::Choice))) => {
+            Some(Broken::Seizure)
+        }
         (Step::Order(Order::Seize(_)), _) if took.is_ok() != open => Some(Broken::Seizure),
         (Step::Receive, Err(Fault::Refused(_))) => Some(Broken::Message),
         _ => None,

@@ -1,4 +1,5 @@
-// The operations of a trunk on an end: all room is made before, and what is told and sent is kept after.
+// The operations of a trunk on an end: all room is made before, and what is told and sent is kept
+// after.
 ghost use Rattle.std.specs.Prelude.{◌≡◌};
 ghost use Rattle.supervision.specs.Lending.{lent};
 ghost use Rattle.interworking.specs.Acting.{Acted, Performed};

@@ -97,7 +97,8 @@ impl Line {
         self.octets.reserve(octets)
     }
 
-    // Puts messages on it whose octets were written in a row, as the words say that were told with them.
+    // Puts messages on it whose octets were written in a row, as the words say that were told with
+    // them.
     #[tactic(auto, using(crate::proofs::Cuts::messages_append))]
     pub(crate) fn post(&mut self, words: &[u32], octets: &[u8])
         requires messages { vec_len self.old.sizes + length words.now
@@ -116,7 +117,8 @@ impl Line {
         requires cic { cic.0 < 4096 }
         requires body { 1 ≤ length body.now }
         ensures { carried self.new
-            ≡ carried self.old ++ (if is_ok result then encode (call cic.0 kind body.now) ∷ [] else []) }
+            ≡ carried self.old
+            ++ (if is_ok result then encode (call cic.0 kind body.now) ∷ [] else []) }
     {
         let Some(size) = body.len().checked_add(HEAD) else {
             return Err(AllocError);

@@ -1,10 +1,11 @@
-// One end of the lines: an exchange with a table and a policy of its own, what it was told, and the line out of it.
+// One end of the lines.
 use crate::line::Line;
 use circuit::Circuit;
 use policy::Policy;
 use std::marker::Model;
 use supervision::Trunk;
 
+// An exchange with a table and a policy of its own, what it told, and the line out of it.
 #[derive(Drop)]
 pub struct End<P: Policy> {
     pub(crate) trunk: Trunk,

@@ -1,4 +1,4 @@
-// Why a step was not taken. Nothing is changed then.
+// The faults of steps.
 ghost use Rattle.std.specs.Prelude.{◌≡◌};
 ghost use Rattle.interworking.specs.declared.fault.Fault.TheVariants.{Memory};
 
@@ -7,6 +7,7 @@ use std::alloc::AllocError;
 use std::error::Error;
 use std::fmt;
 
+// Why a step was not taken. Nothing is changed then.
 #[derive(Clone, Copy, PartialEq, Eq, Debug)]
 pub enum Fault {
     // the operation is refused

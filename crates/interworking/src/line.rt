@@ -1,7 +1,8 @@
-// A line: messages in the order that they were sent, of any length.
+// A line from one exchange to the other.
 ghost use Rattle.std.specs.Prelude.{◌≡◌, length};
 ghost use Rattle.std.specs.List.{sum};
 
+// Messages in the order that they were sent, the front one first.
 #[derive(Drop)]
 pub struct Line {
     // their octets in a row

@@ -14,7 +14,8 @@ use status::Cic;
 use std::alloc::Global;
 
 impl<P: Policy, Q: Policy> Bench<P, Q> {
-    // Both newly opened with the same first CIC and equipment, the near one with the higher point code or the far one.
+    // Both newly opened with the same first CIC and equipment, the near one with the higher point
+    // code or the far one.
     pub fn open(
         alloc: Global,
         first: Cic,
@@ -51,7 +52,8 @@ impl<P: Policy, Q: Policy> Bench<P, Q> {
         &self.far
     }
 
-    // Takes a step; how many words it told. A step that is refused, or for which memory is wanting, changes nothing.
+    // Takes a step; how many words it told. A step that is refused, or for which memory is wanting,
+    // changes nothing.
     pub fn step(&mut self, side: Side, step: Step<'_>) -> Result<usize, Fault>
         ensures done { Stepped side step.entry result self.old.near
             self.old.far self.new.near self.new.far }

@@ -24,8 +24,8 @@ fn connected(table: &[Circuit]) -> usize
 }
 
 impl<P: Policy, Q: Policy> Bench<P, Q> {
-    // The most receives that empty both lines: six for each message on one, and two for each end of a call that is
-    // calling or talking.
+    // The most receives that empty both lines: six for each message on one, and two for each end of
+    // a call that is calling or talking.
     pub fn most_receives(&self) -> u128
         ensures { result ≡ most_receives self.now.near self.now.far }
     {

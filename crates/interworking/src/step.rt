@@ -3,12 +3,14 @@ use message::CallKind;
 use status::Cic;
 use supervision::Order;
 
+// One of the two exchanges.
 #[derive(Clone, Copy, PartialEq, Eq, Debug)]
 pub enum Side {
     Near,
     Far,
 }
 
+// What an exchange does next.
 #[derive(Clone, Copy)]
 pub enum Step<'a> {
     // an order of the host
@@ -21,7 +23,8 @@ pub enum Step<'a> {
     },
     // the front message of the other exchange's line
     Receive,
-    // a call message of the host's own
+    // a call message of the host's own, body of one octet or more; refused by 8 for an IAM or an
+    // empty body, by 9 for a CIC that is no circuit
     Call {
         cic: Cic,
         kind: CallKind,
