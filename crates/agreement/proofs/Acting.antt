@@ -1,7 +1,7 @@
 -- Every accepted order and every accepted expiry keeps the laws of an end.
 use Rattle.std.proofs.Common.{◌≤◌, ◌≡◌, ℕ, ◌+◌, ◌-◌, ◌/◌, ◌%◌, ◌<◌, Bool, true, false, cond, not, ◌&&◌, ◌||◌, eqb, ltb, leb, List, [], ◌∷◌, length, None, Ok, Option, Result, sym, refl, ap, ◌∙◌, ⊎_elim, subst, arith, ◌*◌, Some}
 use Rattle.std.proofs.lemmas.Bool.{cases_Bool, eqb-true, not-false, and_parts, eqb-false, leb-false, ltb-false, false≢true}
-use Rattle.status.specs.declared.circuit.Cic.{Cic}
+use Rattle.status.specs.declared.cic.Cic.{Cic}
 use Rattle.message.specs.Msg.{Msg, single, call}
 use Rattle.message.specs.declared.kinds.BlockType.{BlockType}
 use Rattle.message.specs.declared.kinds.BlockType.TheVariants.{Maintenance, Hardware}
@@ -19,9 +19,9 @@ use Rattle.circuit.specs.Orders.{applied}
 use Rattle.circuit.specs.declared.record.Circuit.{Circuit}
 use Rattle.circuit.specs.declared.rules.Rule.{Rule}
 use Rattle.circuit.proofs.Keeping.{order_keeps}
-use Rattle.told.specs.Words.{timer_of}
-use Rattle.told.specs.declared.kinds.Timer.{Timer}
-use Rattle.told.specs.declared.kinds.Timer.TheVariants.{T1, T5, T12, T13, T14, T15, T16, T17, T18, T19, T20, T21, T22, T23}
+use Rattle.words.specs.Words.{timer_of}
+use Rattle.words.specs.declared.kinds.Timer.{Timer}
+use Rattle.words.specs.declared.kinds.Timer.TheVariants.{T1, T5, T12, T13, T14, T15, T16, T17, T18, T19, T20, T21, T22, T23}
 use Rattle.refusal.specs.declared.reasons.Refusal.{Refusal}
 use Rattle.refusal.specs.declared.reasons.Refusal.TheVariants.{Address, State, Argument, Choice}
 use Rattle.refusal.specs.Refusals.{unless, and_then}
@@ -244,7 +244,7 @@ order_acted t E room (seize body choice) l m f st h = seize_acted t E room body 
 order_acted t E room (release_order cic location value) l m f st h =
     let b = and_ok (cause_of location value) _ m (and_ok (admitted t room l) _ m h).2 in
     single_acted t E cic (rule.Release b.0) (release_message cic.0 b.0) l.table m rel st b.2 (λ k. refl) (λ c. releases c b.0) (λ c a. refl)
-    (release_passes t E cic.0 b.0.location b.0.value f)
+    (release_passes t E cic.0 b.0.location_octet b.0.value_octet f)
 order_acted t E room (block cic) l m f st h =
     single_acted t E cic (rule.Block Maintenance) (single cic.0 Blo) l.table m blo st (and_ok (admitted t room l) _ m h).2 (λ k. refl)
     (λ c a. blocks_one c) (λ c a. refl) (single_passes t E cic.0 Blo f)
@@ -353,7 +353,7 @@ one_acted t E at waits kind alert T m sig f st h ev own = repeats_acted t E at w
 expired_acted : (t : Config) (E : ℕ → Bool) (x : Timer) (at kind : ℕ) (T : List Circuit) (m : Move) → Fitting t E → Standing t E T → expired t x at kind T ≡ Ok m → Acted t E T m
 expired_acted t E T1 at kind T m f st h =
     repeats_acted t E at (λ x. is_releasing x.call) (λ x. release_message at x.cause) None T m rel st h (λ k x. refl) repeats_rel
-    (λ x a. release_passes t E at x.cause.location x.cause.value f a)
+    (λ x a. release_passes t E at x.cause.location_octet x.cause.value_octet f a)
 expired_acted t E T5 at kind T m f st h = gives_up_acted t E at T m f st h
 expired_acted t E T12 at kind T m f st h = one_acted t E at (asked_for Maintenance) Blo None T m blo f st h (λ k. refl) repeats_blo
 expired_acted t E T13 at kind T m f st h = one_acted t E at (asked_for Maintenance) Blo (alert_at T13 at) T m blo f st h (λ k. refl) repeats_blo

@@ -9,8 +9,8 @@ use Rattle.circuit.specs.Circuits.{is_open}
 use Rattle.circuit.specs.Laws.{told_of}
 use Rattle.circuit.specs.declared.record.Circuit.{Circuit}
 use Rattle.circuit.specs.declared.rules.Rule.TheVariants as rule
-use Rattle.told.specs.declared.kinds.Direction.TheVariants.{Outgoing}
-use Rattle.told.specs.declared.kinds.Word.TheVariants.{Begun}
+use Rattle.words.specs.declared.kinds.Direction.TheVariants.{Outgoing}
+use Rattle.words.specs.declared.kinds.Word.TheVariants.{Begun}
 use Rattle.refusal.specs.Refusals.{unless, and_then}
 use Rattle.refusal.specs.declared.reasons.Refusal.{Refusal}
 use Rattle.refusal.specs.declared.reasons.Refusal.TheVariants.{Places, Buffers, Argument, Choice}

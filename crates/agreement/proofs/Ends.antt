@@ -1,6 +1,6 @@
 -- Two ends and two lines: what holds in every state, and that it is kept by all that keeps the laws of an end.
 use Rattle.std.proofs.Common.{◌≡◌, ℕ, ◌+◌, ◌<◌, ◌≤◌, Bool, true, false, List, [], ◌∷◌, ◌++◌, map, length, Ok, subst, arith}
-use Rattle.status.specs.declared.circuit.Cic.{Cic}
+use Rattle.status.specs.declared.cic.Cic.{Cic}
 use Rattle.message.specs.Encode.{encode}
 use Rattle.message.specs.Msg.{Msg}
 use Rattle.message.specs.Decode.{decode}

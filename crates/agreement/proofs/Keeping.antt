@@ -4,8 +4,8 @@ use Rattle.std.proofs.lemmas.List.{length-map}
 use Rattle.circuit.specs.Circuits.{is_engaged}
 use Rattle.circuit.specs.Laws.{Turns}
 use Rattle.circuit.specs.declared.record.Circuit.{Circuit}
-use Rattle.told.specs.declared.kinds.Word.{Word}
-use Rattle.told.specs.declared.kinds.Word.TheVariants.{Send, Begun, Ended, Alert}
+use Rattle.words.specs.declared.kinds.Word.{Word}
+use Rattle.words.specs.declared.kinds.Word.TheVariants.{Send, Begun, Ended, Alert}
 use Rattle.supervision.specs.declared.trunk.Config.{Config}
 use Rattle.supervision.specs.Laws.{about, Lawful, SetIsOpen}
 use Rattle.supervision.specs.Lending.{lent, carried, settled}

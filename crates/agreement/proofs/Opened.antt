@@ -3,7 +3,7 @@ use Rattle.std.proofs.Common.{◌≡◌, ℕ, ◌+◌, ◌*◌, ◌/◌, ◌%◌
 use Rattle.std.proofs.lemmas.List.FromFn.{get_or-map-range_with_len, length-map-range_with_len}
 use Rattle.std.proofs.lemmas.List.Folds.{list_all_at}
 use Rattle.std.proofs.lemmas.Bool.{cases_lt, cases_Bool, false≢true, eqb-true, leb-true, not-false, and_parts, ltb-false}
-use Rattle.status.specs.declared.circuit.Cic.{Cic}
+use Rattle.status.specs.declared.cic.Cic.{Cic}
 use Rattle.circuit.specs.Circuits.{fresh, vacant, is_engaged, is_group, is_open}
 use Rattle.refusal.specs.declared.reasons.Refusal.TheVariants.{Opening, Places}
 use Rattle.supervision.specs.Opening.{is_equipment, are_equipment, fits_trunk, opening, equipped_at, open_table, open_set}

@@ -2,7 +2,7 @@
 use Rattle.std.proofs.Common.{◌≡◌, ℕ, zero, suc, ◌+◌, ◌-◌, ◌*◌, ◌/◌, ◌%◌, ◌^◌, ◌<◌, ◌≤◌, Bool, true, false, cond, not, ◌&&◌, eqb, ltb, leb, List, [], ◌∷◌, ◌++◌, length, None, Ok, sym, refl, ap, ◌∙◌, ⊎_elim, length-set, arith}
 use Rattle.std.proofs.lemmas.Bool.{leb-true, cases_Bool, false≢true, eqb-true, le-leb, lt-ltb, and_parts, and_right}
 use Rattle.status.specs.Bits.{cleared, octets_for}
-use Rattle.status.specs.declared.circuit.Cic.{Cic}
+use Rattle.status.specs.declared.cic.Cic.{Cic}
 use Rattle.message.specs.Encode.{encode, refusal_of}
 use Rattle.message.proofs.RoundTrip.{may_write}
 use Rattle.message.specs.Msg.{Msg, single, release_complete, group_reset, group_reset_ack, grouped, release, call}

@@ -6,7 +6,7 @@ use Rattle.circuit.specs.Changes.{quiet}
 use Rattle.circuit.specs.Circuits.{block_of, is_asked, is_connected, is_group, is_lifting, is_none, is_open, is_releasing, is_single, is_sound, is_standing}
 use Rattle.circuit.specs.Orders.{on_seize, on_release, on_block, on_unblock, on_reset}
 use Rattle.circuit.specs.Signals.{on_iam, on_progress, on_rel, on_rlc, on_far_block, on_far_unblock, on_block_ack, on_unblock_ack, on_rsc, on_grs, on_gra}
-use Rattle.circuit.specs.declared.record.Cause.{Cause}
+use Rattle.circuit.specs.declared.record.CauseOctets.{CauseOctets}
 use Rattle.circuit.specs.declared.record.Circuit.{Circuit}
 use Rattle.circuit.specs.declared.record.Reset.TheVariants as reset
 use Rattle.circuit.specs.declared.rules.Change.{Change}
@@ -55,7 +55,7 @@ answers (gra b) c = []
 pub data Own : Circuit → Circuit → List Signal → Type 0 where
   stays : (c : Circuit) → Own c c []
   seizes : (c : Circuit) → is_open c ≡ true → Own c (on_seize c).circuit (iam ∷ [])
-  releases : (c : Circuit) (cause : Cause) → is_connected c.call ≡ true → Own c (on_release cause c).circuit (rel ∷ [])
+  releases : (c : Circuit) (cause : CauseOctets) → is_connected c.call ≡ true → Own c (on_release cause c).circuit (rel ∷ [])
   blocks_one : (c : Circuit) → Own c (on_block Maintenance c).circuit (blo ∷ [])
   unblocks_one : (c : Circuit) → Own c (on_unblock Maintenance c).circuit (ubl ∷ [])
   blocks : (c : Circuit) (why : BlockType) → Own c (on_block why c).circuit (cgb why ∷ [])

@@ -102,7 +102,7 @@ heard_sent t E (single c Rsc) T m f st p h =
     (each_append (Sends t E) (ask_again t c T) (release_complete c ∷ []) (ask_passes t E c T f p.addressed) (complete_passes t E c f p.addressed, tt)))
 heard_sent t E (release_complete c) T m f st p h =
     one_sent t E c _ (λ x. msg_if (is_unexpected x) (release_message c unexpected)) T m h
-    (λ x. if_passes t E (is_unexpected x) (release_message c unexpected) (release_passes t E c unexpected.location unexpected.value f p.addressed))
+    (λ x. if_passes t E (is_unexpected x) (release_message c unexpected) (release_passes t E c unexpected.location_octet unexpected.value_octet f p.addressed))
 heard_sent t E (release c cause) T m f st p h = one_sent t E c _ (λ _. release_complete c ∷ []) T m h (λ x. (complete_passes t E c f p.addressed, tt))
 heard_sent t E (call c Iam body) T m f st p h = one_sent t E c _ (λ _. []) T m h (λ x. tt)
 heard_sent t E (call c Acm body) T m f st p h = one_sent t E c _ (λ _. []) T m h (λ x. tt)

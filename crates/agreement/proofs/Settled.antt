@@ -2,7 +2,7 @@
 use Rattle.std.proofs.Common.{◌≡◌, ℕ, zero, suc, ◌+◌, ◌*◌, ◌<◌, ◌≤◌, Bool, true, false, cond, not, ◌⊎◌, inl, inr, List, [], ◌∷◌, length, is_ok, replicate, Some, None, Ok, Err, Option, Result, sym, refl, ⊎_elim, subst, arith}
 use Rattle.std.proofs.lemmas.Bool.{false≢true}
 use Rattle.std.proofs.lemmas.List.{length-replicate, nil_from_length}
-use Rattle.status.specs.declared.circuit.Cic.{Cic}
+use Rattle.status.specs.declared.cic.Cic.{Cic}
 use Rattle.message.specs.Decode.{decode}
 use Rattle.message.specs.Msg.{Msg, single, grouped}
 use Rattle.message.specs.declared.fault.MessageFault.{MessageFault}

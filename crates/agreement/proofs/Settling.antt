@@ -1,6 +1,6 @@
 -- What is left to be received, of two ends and two lines, and that each receive makes it less.
 use Rattle.std.proofs.Common.{◌≡◌, ℕ, ◌+◌, ◌*◌, ◌<◌, ◌≤◌, Bool, false, List, [], ◌∷◌, ◌++◌, map, length, Ok, Err, Result, sym, refl, ap, ◌∙◌, subst, arith}
-use Rattle.status.specs.declared.circuit.Cic.{Cic}
+use Rattle.status.specs.declared.cic.Cic.{Cic}
 use Rattle.message.specs.Decode.{decode}
 use Rattle.message.specs.Encode.{encode, plain}
 use Rattle.message.specs.Msg.{Msg, grouped}

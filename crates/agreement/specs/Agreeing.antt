@@ -1,14 +1,14 @@
 -- What is promised of two exchanges.
 use Rattle.std.specs.Prelude.{◌≡◌, ℕ, ◌+◌, ◌<◌, ◌≤◌, ◌||◌, Bool, true, false, cond, not, ◌==◌, List, [], ◌∷◌, length, is_ok, Some, Ok, Err, Option}
-use Rattle.status.specs.declared.circuit.Cic.{Cic}
+use Rattle.status.specs.declared.cic.Cic.{Cic}
 use Rattle.message.specs.declared.kinds.BlockType.{BlockType}
 use Rattle.policy.specs.Sets.{Chosen}
 use Rattle.policy.specs.declared.interface.Place.{Place}
 use Rattle.circuit.specs.Circuits.{block_of, is_engaged, is_none, is_open, is_set, is_waiting, is_releasing, is_standing}
 use Rattle.circuit.specs.Laws.{Turns}
 use Rattle.circuit.specs.declared.record.Circuit.{Circuit}
-use Rattle.told.specs.declared.kinds.Direction.TheVariants.{Outgoing}
-use Rattle.told.specs.declared.kinds.Word.TheVariants.{Begun}
+use Rattle.words.specs.declared.kinds.Direction.TheVariants.{Outgoing}
+use Rattle.words.specs.declared.kinds.Word.TheVariants.{Begun}
 use Rattle.refusal.specs.declared.reasons.Refusal.TheVariants.{Choice}
 use Rattle.supervision.specs.declared.trunk.Config.{Config}
 use Rattle.supervision.specs.Laws.{about, SetIsOpen}
@@ -17,6 +17,7 @@ use Rattle.supervision.specs.Receiving.{receiving}
 use Rattle.supervision.specs.Trunks.{cic_at, placed}
 use Rattle.supervision.specs.Answering.{answer, seize}
 use Rattle.agreement.specs.Runs.{State, Reaches, lends, trunk}
+use Rattle.supervision.specs.declared.limits.TheConstants.{OCTETS, WORDS}
 
 -- the circuit at a place
 abbrev pub at : State → ℕ → Circuit
@@ -33,7 +34,7 @@ TakesTurns first s = (k : ℕ) → k < length s.table → Turns false (about (fi
 -- the octets are accepted where they are received, with outputs of full size
 abbrev pub IsTaken : Config → State → List ℕ → Type 0
 IsTaken t s front =
-    (words octets : List ℕ) → 96 ≤ length words → 320 ≤ length octets
+    (words octets : List ℕ) → WORDS ≤ length words → OCTETS ≤ length octets
     → is_ok (receiving t (length s.held) front (lends s words octets)) ≡ true
 
 -- each message of a line is
@@ -52,8 +53,8 @@ pub record Asks (s : State) (body : List ℕ) (choice : Option Place) (words oct
   pub chosen : Chosen s.held choice
   pub long : 1 ≤ length body
   pub short : length body ≤ 256
-  pub room_of_words : 96 ≤ length words
-  pub room_of_octets : 320 ≤ length octets
+  pub room_of_words : WORDS ≤ length words
+  pub room_of_octets : OCTETS ≤ length octets
 
 pub record Seizes (t : Config) (s : State) : Type 0 where
   -- the policy's set is exactly the open circuits

@@ -1,15 +1,15 @@
 -- A run played from a script, and one such run in which messages cross.
 use Rattle.std.specs.Prelude.{◌≡◌, ℕ, Bool, true, false, cond, not, ◌&&◌, nat_le, List, [], ◌∷◌, ◌++◌, length, replicate, slice_index_or, Some, None, Ok, Err, Result}
-use Rattle.status.specs.declared.circuit.Cic.{Cic}
+use Rattle.status.specs.declared.cic.Cic.{Cic}
 use Rattle.message.specs.Encode.{encode}
 use Rattle.message.specs.Msg.{call}
 use Rattle.message.specs.declared.kinds.CallKind.{CallKind}
 use Rattle.message.specs.declared.kinds.CallKind.TheVariants.{Acm}
 use Rattle.circuit.specs.Circuits.{is_set}
 use Rattle.circuit.specs.declared.record.Call.TheVariants.{Talking}
-use Rattle.told.specs.declared.kinds.Direction.TheVariants.{Outgoing, Incoming}
-use Rattle.told.specs.declared.kinds.EndCause.TheVariants.{ReleaseReceived, ReleaseComplete, DualSeizure}
-use Rattle.told.specs.declared.kinds.Word.TheVariants.{Send, Begun, Ended}
+use Rattle.words.specs.declared.kinds.Direction.TheVariants.{Outgoing, Incoming}
+use Rattle.words.specs.declared.kinds.EndCause.TheVariants.{ReleaseReceived, ReleaseComplete, DualSeizure}
+use Rattle.words.specs.declared.kinds.Word.TheVariants.{Send, Begun, Ended}
 use Rattle.refusal.specs.declared.reasons.Refusal.{Refusal}
 use Rattle.supervision.specs.declared.trunk.Config.{Config}
 use Rattle.supervision.specs.Answering.{Order, answer, seize, release as release_order, block, group_block, group_reset}
@@ -19,6 +19,7 @@ use Rattle.supervision.specs.Orders.{circuit_of}
 use Rattle.supervision.specs.Receiving.{as_cic, receiving}
 use Rattle.agreement.specs.Agreeing.{at}
 use Rattle.agreement.specs.Runs.{State, Reaches, after_move, fresh_state, lends, of_host, trunk, with_line}
+use Rattle.supervision.specs.declared.limits.TheConstants.{OCTETS, WORDS}
 
 -- what one exchange is asked to do
 pub data Act : Type 0 where
@@ -45,12 +46,12 @@ in_set held o = true
 
 abbrev pub does : Config → Act → State → List (List ℕ) → State × List (List ℕ)
 does t (orders o) s into =
-    cond (in_set s.held o) (moved_by t (answer t (length s.held) o (lends s (replicate 96 0) (replicate 320 0))) s into into) (s, into)
+    cond (in_set s.held o) (moved_by t (answer t (length s.held) o (lends s (replicate WORDS 0) (replicate OCTETS 0))) s into into) (s, into)
 does t (expires timer n kind) s into =
-    moved_by t (expiring t (length s.held) timer n kind (lends s (replicate 96 0) (replicate 320 0))) s into into
+    moved_by t (expiring t (length s.held) timer n kind (lends s (replicate WORDS 0) (replicate OCTETS 0))) s into into
 does t receives s [] = (s, [])
 does t receives s (front ∷ into) =
-    moved_by t (receiving t (length s.held) front (lends s (replicate 96 0) (replicate 320 0))) s (front ∷ into) into
+    moved_by t (receiving t (length s.held) front (lends s (replicate WORDS 0) (replicate OCTETS 0))) s (front ∷ into) into
 does t (calls c kind body) s into =
     cond (of_host kind && (nat_le 1 (length body) && (circuit_of t (as_cic c) s.table).equipped))
     (record s { line = s.line ++ (encode (call c kind body) ∷ []) }, into) (s, into)

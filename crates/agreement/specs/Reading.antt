@@ -1,7 +1,7 @@
 -- The words that numbers say.
 use Rattle.std.specs.Prelude.{ℕ, List, [], ◌∷◌, Some, None, Option}
-use Rattle.told.specs.Words.{word_of}
-use Rattle.told.specs.declared.kinds.Word.{Word}
+use Rattle.words.specs.Words.{word_of}
+use Rattle.words.specs.declared.kinds.Word.{Word}
 
 -- a word before others, if there is one
 abbrev pub onto : Option Word → List Word → List Word

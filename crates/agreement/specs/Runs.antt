@@ -1,12 +1,12 @@
 -- Runs of two exchanges over two lines: from newly opened, step by step.
 use Rattle.std.specs.Prelude.{◌≡◌, ℕ, ◌*◌, ◌≤◌, Bool, true, false, not, List, [], ◌∷◌, ◌++◌, map, length, Ok}
-use Rattle.status.specs.declared.circuit.Cic.{Cic}
+use Rattle.status.specs.declared.cic.Cic.{Cic}
 use Rattle.message.specs.Encode.{encode}
 use Rattle.message.specs.Msg.{call}
 use Rattle.message.specs.declared.kinds.CallKind.{CallKind}
 use Rattle.message.specs.declared.kinds.CallKind.TheVariants.{Iam, Acm, Con, Anm, Cpg}
 use Rattle.circuit.specs.declared.record.Circuit.{Circuit}
-use Rattle.told.specs.declared.kinds.Word.{Word}
+use Rattle.words.specs.declared.kinds.Word.{Word}
 use Rattle.supervision.specs.declared.trunk.Config.{Config}
 use Rattle.supervision.specs.Answering.{Order, answer, ByPolicy}
 use Rattle.supervision.specs.Expiring.{expiring}
@@ -15,6 +15,7 @@ use Rattle.supervision.specs.Moves.{Move, table_of, words_of}
 use Rattle.supervision.specs.Opening.{opening, open_table, open_set}
 use Rattle.supervision.specs.Orders.{circuit_of}
 use Rattle.supervision.specs.Receiving.{as_cic, receiving}
+use Rattle.supervision.specs.declared.limits.TheConstants.{SLOTS}
 
 -- the state of one exchange, whatever its policy is
 pub record State : Type 0 where
@@ -80,8 +81,8 @@ with_line l s = record s { line = l }
 -- what runs reach, of two exchanges with the same first CIC and equipment; `higher` says whether the near one has the higher point code
 pub data Reaches (first : Cic) (ws : List ℕ) (higher : Bool) : State → State → Type 0 where
   -- both newly opened, the lines empty
-  opened : (room room' : ℕ) → opening room first ws higher (length ws * 32) ≡ Ok (trunk first ws higher)
-      → opening room' first ws (not higher) (length ws * 32) ≡ Ok (trunk first ws (not higher))
+  opened : (room room' : ℕ) → opening room first ws higher (length ws * SLOTS) ≡ Ok (trunk first ws higher)
+      → opening room' first ws (not higher) (length ws * SLOTS) ≡ Ok (trunk first ws (not higher))
       → Reaches first ws higher (fresh_state room ws) (fresh_state room' ws)
   -- a step of the near one, and of the far one
   near : (a b a' : State) (l : List (List ℕ)) → Reaches first ws higher a b → Steps (trunk first ws higher) a b.line a' l → Reaches first ws higher a' (with_line l b)

@@ -7,12 +7,12 @@ use Rattle.circuit.specs.declared.record.Call.TheVariants.{Idle}
 use Rattle.circuit.specs.declared.record.LocalBlock.{LocalBlock}
 use Rattle.circuit.specs.declared.record.Blocks.{Blocks}
 use Rattle.circuit.specs.declared.record.Reset.{Reset}
-use Rattle.circuit.specs.declared.record.Cause.{Cause}
+use Rattle.circuit.specs.declared.record.CauseOctets.{CauseOctets}
 use Rattle.circuit.specs.declared.record.Circuit.{Circuit}
 use Rattle.circuit.specs.declared.rules.Change.{Change}
-use Rattle.told.specs.declared.kinds.Direction.{Direction}
-use Rattle.told.specs.declared.kinds.EndCause.{EndCause}
-use Rattle.told.specs.declared.kinds.EndCause.TheVariants as end
+use Rattle.words.specs.declared.kinds.Direction.{Direction}
+use Rattle.words.specs.declared.kinds.EndCause.{EndCause}
+use Rattle.words.specs.declared.kinds.EndCause.TheVariants as end
 use Rattle.circuit.specs.Circuits.{is_idle}
 
 abbrev pub with_call : Call → Circuit → Circuit
@@ -27,7 +27,7 @@ with_fars x c = record c { far = x }
 abbrev pub with_reset : Reset → Circuit → Circuit
 with_reset x c = record c { reset = x }
 
-abbrev pub with_cause : Cause → Circuit → Circuit
+abbrev pub with_cause : CauseOctets → Circuit → Circuit
 with_cause x c = record c { cause = x }
 
 -- the end that is told where a call is ended: none of an idle one

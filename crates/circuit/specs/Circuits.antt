@@ -122,7 +122,7 @@ fresh e = record {
   local = no_local;
   far = no_far;
   reset = reset.None;
-  cause = record { location = 0; value = 0 };
+  cause = record { location_octet = 0; value_octet = 0 };
 }
 
 -- what a place past the table reads as

@@ -1,16 +1,16 @@
 -- What every rule keeps.
 use Rattle.std.specs.Prelude.{◌≡◌, Bool, true, false, not, List, [], ◌∷◌, ◌++◌, Some, None, Option}
-use Rattle.status.specs.declared.circuit.Cic.{Cic}
+use Rattle.status.specs.declared.cic.Cic.{Cic}
 use Rattle.circuit.specs.declared.record.Reset.{Reset}
 use Rattle.circuit.specs.declared.record.Reset.TheVariants as reset
 use Rattle.circuit.specs.declared.record.Circuit.{Circuit}
 use Rattle.circuit.specs.declared.rules.Change.{Change}
 use Rattle.circuit.specs.declared.rules.Rule.{Rule}
 use Rattle.circuit.specs.declared.rules.Rule.TheVariants as rule
-use Rattle.told.specs.declared.kinds.Direction.{Direction}
-use Rattle.told.specs.declared.kinds.EndCause.{EndCause}
-use Rattle.told.specs.declared.kinds.Word.{Word}
-use Rattle.told.specs.declared.kinds.Word.TheVariants.{Send, Begun, Ended, Alert}
+use Rattle.words.specs.declared.kinds.Direction.{Direction}
+use Rattle.words.specs.declared.kinds.EndCause.{EndCause}
+use Rattle.words.specs.declared.kinds.Word.{Word}
+use Rattle.words.specs.declared.kinds.Word.TheVariants.{Send, Begun, Ended, Alert}
 use Rattle.circuit.specs.Circuits.{is_open, is_sound, is_engaged, is_connected, is_waiting, is_group}
 
 abbrev pub end_word : Cic → Option EndCause → List Word

@@ -5,13 +5,13 @@ use Rattle.circuit.specs.declared.record.Call.TheVariants.{Calling, Releasing}
 use Rattle.circuit.specs.declared.record.LocalBlock.{LocalBlock}
 use Rattle.circuit.specs.declared.record.LocalBlock.TheVariants as local
 use Rattle.circuit.specs.declared.record.Reset.{Reset}
-use Rattle.circuit.specs.declared.record.Cause.{Cause}
+use Rattle.circuit.specs.declared.record.CauseOctets.{CauseOctets}
 use Rattle.circuit.specs.declared.record.Circuit.{Circuit}
 use Rattle.circuit.specs.declared.rules.Change.{Change}
 use Rattle.circuit.specs.declared.rules.Rule.{Rule}
 use Rattle.circuit.specs.declared.rules.Rule.TheVariants as rule
-use Rattle.told.specs.declared.kinds.Direction.TheVariants.{Outgoing}
-use Rattle.told.specs.declared.kinds.EndCause.TheVariants as end
+use Rattle.words.specs.declared.kinds.Direction.TheVariants.{Outgoing}
+use Rattle.words.specs.declared.kinds.EndCause.TheVariants as end
 use Rattle.circuit.specs.Circuits.{block_of, with_block, no_local, no_far}
 use Rattle.circuit.specs.Signals.{on_signal}
 use Rattle.circuit.specs.Changes.{with_call, with_locals, with_fars, with_reset, with_cause, change, quiet, ending, under_block}
@@ -21,7 +21,7 @@ abbrev pub on_seize : Circuit → Change
 on_seize c = change (with_call Calling c) None (Some Outgoing)
 
 -- releasing: the cause is kept
-abbrev pub on_release : Cause → Circuit → Change
+abbrev pub on_release : CauseOctets → Circuit → Change
 on_release cause c = quiet (with_cause cause (with_call Releasing c))
 
 -- blocking: asked; a hardware block ends the call

@@ -7,13 +7,13 @@ use Rattle.circuit.specs.declared.record.Call.TheVariants.{Idle, Calling, Talkin
 use Rattle.circuit.specs.declared.record.LocalBlock.{LocalBlock}
 use Rattle.circuit.specs.declared.record.LocalBlock.TheVariants as local
 use Rattle.circuit.specs.declared.record.Reset.TheVariants as reset
-use Rattle.circuit.specs.declared.record.Cause.{Cause}
+use Rattle.circuit.specs.declared.record.CauseOctets.{CauseOctets}
 use Rattle.circuit.specs.declared.record.Circuit.{Circuit}
 use Rattle.circuit.specs.declared.rules.Change.{Change}
 use Rattle.circuit.specs.declared.signals.Signal.{Signal}
 use Rattle.circuit.specs.declared.signals.Signal.TheVariants as signal
-use Rattle.told.specs.declared.kinds.Direction.TheVariants.{Incoming}
-use Rattle.told.specs.declared.kinds.EndCause.TheVariants as end
+use Rattle.words.specs.declared.kinds.Direction.TheVariants.{Incoming}
+use Rattle.words.specs.declared.kinds.EndCause.TheVariants as end
 use Rattle.circuit.specs.Circuits.{is_none, is_set, is_waiting, is_calling, is_connected, is_group, is_single, block_of, with_block, no_far}
 use Rattle.circuit.specs.Changes.{with_call, with_locals, with_fars, with_reset, with_cause, change, quiet, ending, under_block}
 
@@ -44,8 +44,8 @@ abbrev pub on_rel : Circuit → Change
 on_rel c = cond (is_connected c.call) (ending end.ReleaseReceived c) (quiet c)
 
 -- the cause of a release that answers an unexpected RLC
-abbrev pub unexpected : Cause
-unexpected = record { location = 0x87; value = 0x9f }
+abbrev pub unexpected : CauseOctets
+unexpected = record { location_octet = 0x87; value_octet = 0x9f }
 
 -- where no single reset waits: RLC ends a releasing call, and makes a calling or talking one releasing
 abbrev pub on_rlc_call : Call → Circuit → Change

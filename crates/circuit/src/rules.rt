@@ -4,13 +4,13 @@ ghost use Rattle.circuit.specs.Changes.{quiet, ending, under_block};
 ghost use Rattle.circuit.specs.Laws.{Keeps, allows};
 ghost use Rattle.circuit.specs.Orders.{on_seize, on_release, on_block, on_unblock, on_reset, applied};
 
-use crate::record::{Call, Cause, Circuit, FarBlocks, LocalBlock, LocalBlocks, Reset};
+use crate::record::{Call, CauseOctets, Circuit, FarBlocks, LocalBlock, LocalBlocks, Reset};
 use crate::signals::Signal;
 use message::BlockType;
-use told::{Direction, EndCause};
+use words::{Direction, EndCause};
 
-// What a rule makes of a circuit, and what it tells of its call: an end, a beginning, or first the one and then
-// the other.
+/// What a rule makes of a circuit, and what it tells of its call: an end, a beginning, or first the one and then
+/// the other.
 #[derive(Clone, Copy)]
 pub struct Change {
     pub circuit: Circuit,
@@ -18,20 +18,21 @@ pub struct Change {
     pub begun: Option<Direction>,
 }
 
-// What an order or a message does to each circuit that it names.
+/// What an order or a message does to each circuit that it names.
 #[derive(Clone, Copy)]
 pub enum Rule {
     Seize,
-    Release(Cause),
+    Release(CauseOctets),
     Block(BlockType),
     Unblock(BlockType),
-    // the reset that waits then, which is never none
+    /// the reset that waits then, which is never none
     Reset(Reset),
     Signal(Signal),
 }
 
 impl Change {
     // Nothing is told of the call.
+    #[inline(always)]
     pub(crate) fn quiet(circuit: Circuit) -> Change
         ensures { result ≡ quiet circuit }
     {
@@ -43,6 +44,7 @@ impl Change {
     }
 
     // The call is ended, and the end is told unless it was idle.
+    #[inline(always)]
     pub(crate) fn ending(cause: EndCause, circuit: Circuit) -> Change
         ensures { result ≡ ending cause circuit }
     {
@@ -57,6 +59,7 @@ impl Change {
     }
 
     // What a block does to the call: one for hardware ends it, one for maintenance lets it go on.
+    #[inline(always)]
     pub(crate) fn under_block(why: BlockType, circuit: Circuit) -> Change
         ensures { result ≡ under_block why circuit }
     {
@@ -68,6 +71,7 @@ impl Change {
 }
 
 impl Circuit {
+    #[inline(always)]
     fn seized(self) -> Change
         ensures { result ≡ on_seize self }
     {
@@ -80,7 +84,8 @@ impl Circuit {
         }
     }
 
-    fn released(self, cause: Cause) -> Change
+    #[inline(always)]
+    fn released(self, cause: CauseOctets) -> Change
         ensures { result ≡ on_release cause self }
     {
         Change::quiet(Circuit {
@@ -90,6 +95,7 @@ impl Circuit {
         })
     }
 
+    #[inline(always)]
     fn blocked(self, why: BlockType) -> Change
         ensures { result ≡ on_block why self }
     {
@@ -97,6 +103,7 @@ impl Circuit {
         Change::under_block(why, Circuit { local, ..self })
     }
 
+    #[inline(always)]
     fn unblocked(self, why: BlockType) -> Change
         ensures { result ≡ on_unblock why self }
     {
@@ -107,6 +114,7 @@ impl Circuit {
         Change::quiet(Circuit { local, ..self })
     }
 
+    #[inline(always)]
     fn cleared(self, reset: Reset) -> Change
         ensures { result ≡ on_reset reset self }
     {
@@ -123,7 +131,8 @@ impl Circuit {
 }
 
 impl Rule {
-    // Whether an order may name the circuit.
+    /// Whether an order may name the circuit.
+    #[inline(always)]
     pub fn allows(self, circuit: Circuit) -> bool
         ensures { result ≡ allows self circuit }
     {
@@ -137,7 +146,8 @@ impl Rule {
         }
     }
 
-    // What the rule makes of a circuit.
+    /// What the rule makes of a circuit.
+    #[inline(always)]
     pub fn apply(self, circuit: Circuit) -> Change
         ensures value { result ≡ applied self circuit }
         ensures keeps { allows self circuit ≡ true → Keeps circuit result }

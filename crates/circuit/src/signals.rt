@@ -3,36 +3,37 @@ ghost use Rattle.std.specs.Prelude.{◌≡◌};
 ghost use Rattle.circuit.specs.Circuits.{is_set, is_calling, is_single};
 ghost use Rattle.circuit.specs.Signals.{on_iam, on_progress, on_rel, on_rlc, on_far_block, on_far_unblock, acknowledged, on_block_ack, asked_again, unlocked, on_unblock_ack, on_rsc, on_grs, on_gra, on_signal, passes_iam};
 
-use crate::record::{Call, Cause, Circuit, FarBlocks, LocalBlock, LocalBlocks, Reset};
+use crate::record::{Call, CauseOctets, Circuit, FarBlocks, LocalBlock, LocalBlocks, Reset};
 use crate::rules::Change;
 use message::BlockType;
-use told::{Direction, EndCause};
+use words::{Direction, EndCause};
 
-// A message as one circuit that it names sees it.
+/// A message as one circuit that it names sees it.
 #[derive(Clone, Copy)]
 pub enum Signal {
-    // IAM, and whether we control the circuit
+    /// IAM, and whether we control the circuit
     Iam(bool),
-    // ACM, CON, ANM, CPG
+    /// ACM, CON, ANM, CPG
     Progress,
     Rel,
     Rlc,
-    // BLO, and CGB for its type
+    /// BLO, and CGB for its type
     Block(BlockType),
-    // UBL, and CGU for its type
+    /// UBL, and CGU for its type
     Unblock(BlockType),
-    // BLA, and CGBA for its type
+    /// BLA, and CGBA for its type
     BlockAck(BlockType),
-    // UBA, and CGUA for its type
+    /// UBA, and CGUA for its type
     UnblockAck(BlockType),
     Rsc,
     Grs,
-    // GRA, and the status bit of the circuit
+    /// GRA, and the status bit of the circuit
     Gra(bool),
 }
 
 impl LocalBlock {
     // What an acknowledgement of the block makes of it.
+    #[inline(always)]
     fn acknowledged(self) -> LocalBlock
         ensures { result ≡ acknowledged self }
     {
@@ -43,6 +44,7 @@ impl LocalBlock {
     }
 
     // A block that stands is asked for once more.
+    #[inline(always)]
     fn asked_again(self) -> LocalBlock
         ensures { result ≡ asked_again self }
     {
@@ -53,6 +55,7 @@ impl LocalBlock {
     }
 
     // What an acknowledgement of its removal makes of it.
+    #[inline(always)]
     fn unlocked(self) -> LocalBlock
         ensures { result ≡ unlocked self }
     {
@@ -65,6 +68,7 @@ impl LocalBlock {
 
 impl Circuit {
     // Whether an IAM does nothing here.
+    #[inline(always)]
     fn passes_iam(self, controlled: bool) -> bool
         ensures { result ≡ passes_iam controlled self }
     {
@@ -78,6 +82,7 @@ impl Circuit {
             }
     }
 
+    #[inline(always)]
     fn called(self, controlled: bool) -> Change
         ensures { result ≡ on_iam controlled self }
     {
@@ -96,6 +101,7 @@ impl Circuit {
         }
     }
 
+    #[inline(always)]
     fn progressed(self) -> Change
         ensures { result ≡ on_progress self }
     {
@@ -106,6 +112,7 @@ impl Circuit {
         Change::quiet(Circuit { call, ..self })
     }
 
+    #[inline(always)]
     fn far_released(self) -> Change
         ensures { result ≡ on_rel self }
     {
@@ -115,6 +122,7 @@ impl Circuit {
         Change::ending(EndCause::ReleaseReceived, self)
     }
 
+    #[inline(always)]
     fn completed(self) -> Change
         ensures { result ≡ on_rlc self }
     {
@@ -128,13 +136,14 @@ impl Circuit {
             Call::Idle => Change::quiet(self),
             Call::Calling | Call::Talking => Change::quiet(Circuit {
                 call: Call::Releasing,
-                cause: Cause::UNEXPECTED,
+                cause: CauseOctets::UNEXPECTED,
                 ..self
             }),
             Call::Releasing => Change::ending(EndCause::ReleaseComplete, self),
         }
     }
 
+    #[inline(always)]
     fn far_blocked(self, why: BlockType) -> Change
         ensures { result ≡ on_far_block why self }
     {
@@ -142,6 +151,7 @@ impl Circuit {
         Change::under_block(why, Circuit { far, ..self })
     }
 
+    #[inline(always)]
     fn far_unblocked(self, why: BlockType) -> Change
         ensures { result ≡ on_far_unblock why self }
     {
@@ -149,6 +159,7 @@ impl Circuit {
         Change::quiet(Circuit { far, ..self })
     }
 
+    #[inline(always)]
     fn block_acknowledged(self, why: BlockType) -> Change
         ensures { result ≡ on_block_ack why self }
     {
@@ -156,6 +167,7 @@ impl Circuit {
         Change::quiet(Circuit { local, ..self })
     }
 
+    #[inline(always)]
     fn unblock_acknowledged(self, why: BlockType) -> Change
         ensures { result ≡ on_unblock_ack why self }
     {
@@ -163,6 +175,7 @@ impl Circuit {
         Change::quiet(Circuit { local, ..self })
     }
 
+    #[inline(always)]
     fn far_reset(self) -> Change
         ensures { result ≡ on_rsc self }
     {
@@ -174,6 +187,7 @@ impl Circuit {
         Change::ending(EndCause::Reset, Circuit { local, far, ..self })
     }
 
+    #[inline(always)]
     fn far_group_reset(self) -> Change
         ensures { result ≡ on_grs self }
     {
@@ -183,6 +197,7 @@ impl Circuit {
         Change::ending(EndCause::Reset, Circuit { local, far, ..self })
     }
 
+    #[inline(always)]
     fn group_reset_acknowledged(self, blocked: bool) -> Change
         ensures { result ≡ on_gra blocked self }
     {
@@ -199,7 +214,8 @@ impl Circuit {
 }
 
 impl Signal {
-    // What the message makes of a circuit.
+    /// What the message makes of a circuit.
+    #[inline]
     pub fn apply(self, circuit: Circuit) -> Change
         ensures { result ≡ on_signal self circuit }
     {

@@ -6,14 +6,15 @@ ghost use Rattle.console.specs.Opened.{Opened};
 use crate::order::{Opening, Order};
 use crate::wording::Answer;
 use circuit::Circuit;
+use exchange::Exchange;
 use refusal::Refusal;
 use status::Cic;
 use std::alloc::{AllocError, Global};
 use supervision::{MOST_SYSTEMS, OCTETS, SLOTS, Trunk, WORDS};
-use terminal::{Event, Selection};
+use terminal::{Input, Selection};
 
 // An open trunk with its policy.
-#[derive(Clone, Copy)]
+#[derive(Drop)]
 struct OpenTrunk {
     trunk: Trunk,
     selection: Selection,
@@ -59,7 +60,7 @@ impl Console {
         match order {
             Order::Open(opening) => self.open(heap, &opening),
             Order::Show(cic) => Ok(self.show(cic)),
-            Order::Operate(event) => Ok(self.operate(&event)),
+            Order::Operate(input) => Ok(self.operate(&input)),
         }
     }
 
@@ -80,7 +81,7 @@ impl Console {
     }
 
     fn show(&self, cic: Cic) -> Answer {
-        let Some(open) = self.open else {
+        let Some(open) = &self.open else {
             return Answer::NotUnderstood;
         };
         let circuit = open
@@ -93,16 +94,18 @@ impl Console {
         }
     }
 
-    fn operate(&mut self, event: &Event) -> Answer {
-        let Some(mut open) = self.open else {
+    fn operate(&mut self, input: &Input) -> Answer {
+        let Some(open) = &mut self.open else {
             return Answer::NotUnderstood;
         };
         let table = self.table.as_mut_slice();
-        let policy = &mut open.selection;
-        let done = event.play(open.trunk, table, policy, &mut self.words, &mut self.octets);
-        self.open = Some(open);
-        match done {
-            Ok((words, octets)) => Answer::Done(words, octets),
+        let (words, octets) = (&mut self.words, &mut self.octets);
+        let mut exchange = Exchange::new(open.trunk, table, &mut open.selection, words, octets);
+        match input.give(&mut exchange) {
+            Ok(()) => {
+                let (words, octets) = exchange.counts();
+                Answer::Done(words, octets)
+            }
             Err(refusal) => Answer::Refused(refusal),
         }
     }

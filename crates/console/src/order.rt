@@ -1,7 +1,7 @@
 // Orders to the console, as they are written on a line.
 use status::Cic;
 use std::alloc::{AllocError, Global};
-use terminal::{Event, Method, decimal_cic, read_equipment, read_event, read_method, words_of};
+use terminal::{Input, Method, decimal_cic, read_equipment, read_input, read_method, words_of};
 
 // A trunk to open.
 #[derive(Drop)]
@@ -18,7 +18,7 @@ pub struct Opening {
 pub enum Order {
     Open(Opening),
     Show(Cic),
-    Operate(Event),
+    Operate(Input),
 }
 
 // The order of a line, or `None` where there is no such order.
@@ -29,7 +29,7 @@ pub(crate) fn read_order(heap: Global, line: &[u8]) -> Result<Option<Order>, All
             read_opening(heap, first, side, method, equipment)
         }
         [b"show", cic] => Ok(read_show(cic)),
-        others => Ok(read_event(heap, others)?.map(Order::Operate)),
+        others => Ok(read_input(heap, others)?.map(Order::Operate)),
     }
 }
 

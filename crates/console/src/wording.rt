@@ -2,6 +2,7 @@
 ghost use Rattle.std.specs.Prelude.{◌≡◌, take};
 
 use circuit::Circuit;
+use exchange::Events;
 use explain::Hex;
 use refusal::Refusal;
 use status::Cic;
@@ -36,7 +37,7 @@ impl fmt::Display for Report<'_> {
                 write!(f, "{}", Outputs { words, octets })
             }
             Answer::Shown(cic, circuit) => writeln!(f, "{}", Standing { cic, circuit }),
-            Answer::Refused(refusal) => writeln!(f, "{refusal}"),
+            Answer::Refused(refusal) => writeln!(f, "{}", refusal.brief()),
             Answer::NotUnderstood => writeln!(f, "not understood"),
         }
     }
@@ -62,9 +63,8 @@ impl fmt::Display for Outputs<'_> {
         writeln!(f, "ok")?;
         writeln!(f, "words {}", OrNone(Hex::<u32, 8>(self.words)))?;
         writeln!(f, "octets {}", OrNone(Hex::<u8, 2>(octets)))?;
-        for word in self.words {
-            let number = *word;
-            writeln!(f, "  {}", Told { number, octets })?;
+        for event in Events::new(self.words, octets) {
+            writeln!(f, "  {}", Told(event))?;
         }
         Ok(())
     }

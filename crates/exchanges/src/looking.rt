@@ -3,7 +3,7 @@ use circuit::{Call, Circuit, LocalBlock};
 use status::Cic;
 use std::alloc::{AllocError, Global};
 use std::fmt;
-use told::{Direction, Word};
+use words::{Direction, Word};
 
 // What was seen not to hold.
 #[derive(Clone, Copy, PartialEq, Eq, Debug)]

@@ -11,30 +11,14 @@ mod tests;
 mod watching;
 mod wording;
 
-ghost use Rattle.std.specs.Prelude.{◌≡◌, ℕ, ◌<◌, length, MatchBool, ◌==◌, ◌≢◌, slice_index};
-
 use explain::without_end;
 use playing::{Answer, Exchanges};
 use reading::read_command;
 use std::alloc::Global;
 use std::io;
 use std::io::{BufRead, BufReader, BufWriter, Write};
+use terminal::{is_blank, is_remark};
 use wording::Report;
-
-// Whether a line has nothing but spaces.
-fn is_blank(text: &[u8]) -> bool
-    ensures { MatchBool result ((k : ℕ) → k < length text.now → slice_index text.now k ≡ 32)
-        ((k : ℕ) × (k < length text.now) × (slice_index text.now k ≢ 32)) }
-{
-    text.iter().all(|byte| *byte == b' ')
-}
-
-// Whether a line is a comment.
-fn is_remark(text: &[u8]) -> bool
-    ensures { result ≡ (slice_index text.now 0 == 35) }
-{
-    text.first() == Some(&b'#')
-}
 
 // Writes a line again, and what it is answered.
 fn answer_line<W: Write>(
@@ -58,7 +42,8 @@ fn answer_line<W: Write>(
         answer,
         exchanges: &*exchanges,
     };
-    write!(out, "{report}")
+    write!(out, "{report}")?;
+    out.flush()
 }
 
 fn run(rt: &HostRuntime) -> io::Result<()> {
@@ -74,7 +59,7 @@ fn run(rt: &HostRuntime) -> io::Result<()> {
         }
         answer_line(rt.alloc(), line.as_slice(), &mut exchanges, &mut out)?;
     }
-    out.flush()
+    Ok(())
 }
 
 fn main(rt: HostRuntime) -> anyhow::Result<()> {

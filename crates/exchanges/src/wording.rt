@@ -1,14 +1,14 @@
 // What a command is answered, in words.
 use crate::playing::{Answer, Exchanges};
 use crate::watching::Tally;
+use exchange::{Event, Events};
 use explain::Explanation;
-use interworking::{Bench, End, Line, Side};
+use interworking::{Bench, End, Fault, Line, Side};
 use policy::Policy;
 use status::Cic;
 use std::fmt;
 use supervision::Config;
 use terminal::{Selection, Standing, Told};
-use told::Word;
 
 // An answer, with the exchanges after it.
 #[derive(Clone, Copy)]
@@ -21,7 +21,7 @@ impl fmt::Display for Report<'_> {
     fn fmt<W: fmt::Write>(&self, f: &mut fmt::Formatter<W>) -> fmt::Result {
         let Some(bench) = &self.exchanges.bench else {
             return match self.answer {
-                Answer::Failed(fault) => writeln!(f, "{fault}"),
+                Answer::Failed(fault) => writeln!(f, "{}", Failed(fault)),
                 _ => writeln!(f, "not understood"),
             };
         };
@@ -43,8 +43,21 @@ impl fmt::Display for Report<'_> {
                 )
             }
             Answer::Ran(tally) => write!(f, "{}", Stretch(tally)),
-            Answer::Failed(fault) => writeln!(f, "{fault}"),
+            Answer::Failed(fault) => writeln!(f, "{}", Failed(fault)),
             Answer::NotUnderstood => writeln!(f, "not understood"),
+        }
+    }
+}
+
+// Why a step was not taken: a refusal by its number.
+#[derive(Clone, Copy)]
+struct Failed(Fault);
+
+impl fmt::Display for Failed {
+    fn fmt<W: fmt::Write>(&self, f: &mut fmt::Formatter<W>) -> fmt::Result {
+        match self.0 {
+            Fault::Refused(refusal) => write!(f, "{}", refusal.brief()),
+            fault => write!(f, "{fault}"),
         }
     }
 }
@@ -57,18 +70,10 @@ impl fmt::Display for Words<'_> {
     fn fmt<W: fmt::Write>(&self, f: &mut fmt::Formatter<W>) -> fmt::Result {
         writeln!(f, "ok")?;
         let earlier = self.0.len().saturating_sub(self.1);
-        for word in &self.0[earlier..] {
-            let number = *word;
-            match Word::try_from(number) {
-                Ok(Word::Send(_, _)) => {}
-                _ => writeln!(
-                    f,
-                    "  {}",
-                    Told {
-                        number,
-                        octets: &[]
-                    }
-                )?,
+        for event in Events::new(&self.0[earlier..], &[]) {
+            match event {
+                Event::Send(_) | Event::Unknown => {}
+                other => writeln!(f, "  {}", Told(other))?,
             }
         }
         Ok(())

@@ -21,7 +21,8 @@ fn octet_front(text: &[u8]) -> Option<u8>
     }
 }
 
-// The octets of a line of hexadecimal digits, or `None` where it has anything else.
+/// The octets of a line of hexadecimal digits, two for each octet, with spaces between; `None` where it has anything
+/// else. The line has no end of line: see `without_end`. An error is want of memory.
 pub fn hex_octets(heap: Global, line: &[u8]) -> Result<Option<Vec<u8>>, AllocError>
     ensures { IfOk result (λ o. listed o ≡ hex_octets line.now) }
 {
@@ -41,7 +42,7 @@ pub fn hex_octets(heap: Global, line: &[u8]) -> Result<Option<Vec<u8>>, AllocErr
     Ok(Some(octets))
 }
 
-// A line without the line feed, or carriage return and line feed, at its end.
+/// A line without the line feed, or carriage return and line feed, at its end.
 pub fn without_end(line: &[u8]) -> &[u8]
     ensures { result.now ≡ without_end line.now }
 {

@@ -3,7 +3,7 @@ use message::{Message, MessageFault};
 use status::{Cic, Group};
 use std::fmt;
 
-// Numbers as upper-case hexadecimal digits, `DIGITS` of each, with a space between.
+/// Numbers as upper-case hexadecimal digits, `DIGITS` of each or more, with a space between.
 #[derive(Clone, Copy)]
 pub struct Hex<'a, T, const DIGITS: usize>(pub &'a [T]);
 
@@ -19,7 +19,7 @@ impl<T: fmt::Radix + Copy, const DIGITS: usize> fmt::Display for Hex<'_, T, DIGI
     }
 }
 
-// What a reader said of octets.
+/// What a reader said of octets, on one line without its end: `BLO cic=5`, or a fault's number, `refused 4`.
 #[derive(Clone, Copy)]
 pub struct Explanation<'a>(pub Result<Message<'a>, MessageFault>);
 
@@ -27,7 +27,7 @@ impl fmt::Display for Explanation<'_> {
     fn fmt<W: fmt::Write>(&self, f: &mut fmt::Formatter<W>) -> fmt::Result {
         let message = match self.0 {
             Ok(message) => message,
-            Err(fault) => return write!(f, "{fault}"),
+            Err(fault) => return write!(f, "{}", fault.brief()),
         };
         let first = message.cic();
         let kind = message.kind();
@@ -37,7 +37,7 @@ impl fmt::Display for Explanation<'_> {
             Message::GroupReset(_, range) => write!(f, " range={}", range.0),
             Message::GroupResetAck(_, group) => write!(f, " {}", Marked { first, group }),
             Message::Grouped(_, _, why, group) => write!(f, " {why} {}", Marked { first, group }),
-            Message::Release(_, cause) => write!(f, " cause={}", Hex::<u8, 2>(cause)),
+            Message::Release(_, cause) => write!(f, " cause={}", Hex::<u8, 2>(cause.0)),
             Message::Call(_, _, body) => write!(f, " body={}", Hex::<u8, 2>(body)),
         }
     }

@@ -3,7 +3,7 @@ use Rattle.std.proofs.Common.{◌≡◌, ℕ, ◌≤◌, Bool, List, ◌++◌, m
 use Rattle.std.proofs.lemmas.List.{length-map, length-replicate}
 use Rattle.std.specs.List.{sum}
 use Rattle.circuit.specs.declared.record.Circuit.{Circuit}
-use Rattle.told.specs.Words.{number_of}
+use Rattle.words.specs.Words.{number_of}
 use Rattle.refusal.specs.declared.reasons.Refusal.{Refusal}
 use Rattle.policy.specs.declared.interface.Place.{Place}
 use Rattle.supervision.proofs.Asking.{some_choice}

@@ -4,7 +4,7 @@ use Rattle.std.proofs.Math.Logic.{∥∥₁_elim}
 use Rattle.std.proofs.Props.{props}
 use Rattle.std.proofs.lemmas.Bool.{false≢true}
 use Rattle.std.proofs.lemmas.List.{length-replicate}
-use Rattle.told.specs.declared.kinds.Word.{Word}
+use Rattle.words.specs.declared.kinds.Word.{Word}
 use Rattle.supervision.specs.declared.trunk.Config.{Config}
 use Rattle.supervision.specs.Moves.{words_of}
 use Rattle.supervision.specs.Receiving.{receiving}

@@ -4,11 +4,11 @@ use Rattle.std.proofs.lemmas.Bool.{not-false}
 use Rattle.std.proofs.lemmas.Bool.Decides.{nat_tests}
 use Rattle.std.proofs.lemmas.List.{map-append, take_more}
 use Rattle.std.proofs.Math.Logic.{∥∥₁_map}
-use Rattle.status.specs.declared.circuit.Cic.{Cic}
+use Rattle.status.specs.declared.cic.Cic.{Cic}
 use Rattle.message.specs.declared.kinds.CallKind.{CallKind}
 use Rattle.circuit.specs.declared.record.Circuit.{Circuit}
-use Rattle.told.specs.Words.{number_of}
-use Rattle.told.specs.declared.kinds.Word.{Word}
+use Rattle.words.specs.Words.{number_of}
+use Rattle.words.specs.declared.kinds.Word.{Word}
 use Rattle.refusal.specs.declared.reasons.Refusal.{Refusal}
 use Rattle.refusal.specs.declared.reasons.Refusal.TheVariants.{Argument, Address, Opening, Places}
 use Rattle.supervision.specs.declared.trunk.Config.{Config}

@@ -1,5 +1,7 @@
 -- What the operations of a trunk make of an exchange.
 use Rattle.std.specs.Prelude.{ℕ, Bool, List, length, Option, Result}
+use Rattle.exchange.specs.Exchange.{lends, Same}
+use Rattle.exchange.specs.declared.exchange.Exchange.{Exchange as Lending}
 use Rattle.policy.specs.declared.interface.Place.{Place}
 use Rattle.refusal.specs.declared.reasons.Refusal.{Refusal}
 use Rattle.supervision.specs.Answering.{answer, ByPolicy}
@@ -37,3 +39,8 @@ pub record Performed (t : Config) (room : ℕ) (task : Task) (r : Result (ℕ ×
   pub choice : Option Place
   pub by_policy : Allowed before.held choice task
   pub outcome : Outcome t (rules_of t room choice task) r before after
+
+-- the same of an exchange to which they are lent
+pub record Gives {P : Type 0} (held : P → List Bool) (room : ℕ) (task : Task) (r : Result (ℕ × ℕ) Refusal) (old new : Lending P) : Type 0 where
+  pub performed : Performed old.trunk.config room task r (lends held old) (lends held new)
+  pub same : Same old new

@@ -2,11 +2,12 @@
 use Rattle.std.specs.Prelude.{◌≡◌, ℕ, Bool, List, ◌++◌, map, length, replicate, Ok, Result}
 use Rattle.message.specs.Encode.{encode}
 use Rattle.circuit.specs.declared.record.Circuit.{Circuit}
-use Rattle.told.specs.Words.{number_of}
+use Rattle.words.specs.Words.{number_of}
 use Rattle.refusal.specs.declared.reasons.Refusal.{Refusal}
 use Rattle.supervision.specs.declared.trunk.Config.{Config}
 use Rattle.supervision.specs.Lending.{Lent, lent, settled}
 use Rattle.supervision.specs.Moves.{Move, table_of, words_of}
+use Rattle.supervision.specs.declared.limits.TheConstants.{OCTETS, WORDS}
 
 pub record Exchange : Type 0 where
   -- the numbers of its trunk
@@ -22,7 +23,7 @@ pub record Exchange : Type 0 where
 
 -- what it lends to its operations: its own table and policy, and outputs of full size
 abbrev pub lends : Exchange → Lent
-lends x = lent x.table x.held (replicate 96 0) (replicate 320 0)
+lends x = lent x.table x.held (replicate WORDS 0) (replicate OCTETS 0)
 
 -- after an accepted move: its words are told, its messages are on the line
 abbrev pub after_move : Move → Exchange → Exchange

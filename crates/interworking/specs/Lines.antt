@@ -1,8 +1,8 @@
 -- The messages of a line.
 use Rattle.std.specs.Prelude.{ℕ, List, [], ◌∷◌, ◌++◌, take, drop, Some, Option}
-use Rattle.told.specs.Words.{word_of}
-use Rattle.told.specs.declared.kinds.Word.{Word}
-use Rattle.told.specs.declared.kinds.Word.TheVariants.{Send}
+use Rattle.words.specs.Words.{word_of}
+use Rattle.words.specs.declared.kinds.Word.{Word}
+use Rattle.words.specs.declared.kinds.Word.TheVariants.{Send}
 use Rattle.interworking.specs.declared.line.Line.{Line}
 
 -- octets in a row, cut into messages of these sizes

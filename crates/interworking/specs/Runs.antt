@@ -1,7 +1,7 @@
 -- Two exchanges that some run led to, and what is promised of them.
 use Rattle.std.specs.Prelude.{◌≡◌, ℕ, not, List, map}
-use Rattle.told.specs.Words.{number_of}
-use Rattle.told.specs.declared.kinds.Word.{Word}
+use Rattle.words.specs.Words.{number_of}
+use Rattle.words.specs.declared.kinds.Word.{Word}
 use Rattle.agreement.specs.Agreeing.{Promised}
 use Rattle.agreement.specs.Reading.{read}
 use Rattle.agreement.specs.Runs.{State, Reaches, trunk}

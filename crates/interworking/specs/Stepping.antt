@@ -1,6 +1,6 @@
 -- What a step of either exchange does.
 use Rattle.std.specs.Prelude.{◌≡◌, ℕ, not, ◌||◌, List, [], ◌∷◌, ◌++◌, length, Ok, Err, Option, Result, ◌==◌}
-use Rattle.status.specs.declared.circuit.Cic.{Cic}
+use Rattle.status.specs.declared.cic.Cic.{Cic}
 use Rattle.message.specs.Encode.{encode}
 use Rattle.message.specs.Msg.{call}
 use Rattle.message.specs.declared.kinds.CallKind.{CallKind}

@@ -2,16 +2,32 @@
 // after.
 ghost use Rattle.std.specs.Prelude.{◌≡◌};
 ghost use Rattle.supervision.specs.Lending.{lent};
-ghost use Rattle.interworking.specs.Acting.{Acted, Performed};
+ghost use Rattle.interworking.specs.Acting.{Acted, Gives, Performed};
 
 use crate::carrying::append;
 use crate::end::End;
 use crate::fault::Fault;
 use crate::step::Task;
 use circuit::Circuit;
+use exchange::Exchange;
 use policy::Policy;
 use refusal::Refusal;
 use supervision::{OCTETS, Trunk, WORDS};
+
+// Gives it to an exchange; how many words and octets that wrote.
+fn give<P: Policy>(
+    task: Task<'_>,
+    exchange: &mut Exchange<'_, P>,
+) -> Result<(usize, usize), Refusal>
+    ensures { Gives P.Policy.held P.Policy.PLACES task.entry result exchange.old exchange.new }
+{
+    match task {
+        Task::Order(order) => exchange.order(order)?,
+        Task::Expire { timer, at, kind } => exchange.expire(timer, at, kind)?,
+        Task::Receive(received) => exchange.receive(received)?,
+    }
+    Ok(exchange.counts())
+}
 
 // Does it on what is lent.
 fn perform<P: Policy>(
@@ -26,13 +42,8 @@ fn perform<P: Policy>(
         (lent table.old (P.Policy.held policy.old) words.old octets.old)
         (lent table.new (P.Policy.held policy.new) words.new octets.new) }
 {
-    match task {
-        Task::Order(order) => trunk.order(order, table, policy, words, octets),
-        Task::Expire { timer, at, kind } => {
-            trunk.expire(timer, at, kind, table, policy, words, octets)
-        }
-        Task::Receive(received) => trunk.receive(received, table, policy, words, octets),
-    }
+    let mut exchange = Exchange::new(trunk, table, policy, words, octets);
+    give(task, &mut exchange)
 }
 
 impl<P: Policy> End<P> {

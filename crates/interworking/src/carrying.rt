@@ -9,7 +9,7 @@ use crate::line::Line;
 use message::{CallKind, Message, write};
 use status::Cic;
 use std::alloc::{AllocError, Global};
-use told::Word;
+use words::Word;
 
 // A call message has its CIC and its type before its body.
 const HEAD: usize = 3;
@@ -46,7 +46,7 @@ impl Line {
         }
     }
 
-    // How many messages are on it.
+    /// How many messages are on it.
     #[tactic(auto, using(crate::proofs::Cuts::length_messages))]
     pub fn len(&self) -> usize
         ensures { result ≡ length (carried self.now) }
@@ -61,7 +61,7 @@ impl Line {
         self.sizes.is_empty()
     }
 
-    // The front message.
+    /// The front message.
     pub fn front(&self) -> Option<&[u8]>
         ensures { MatchOption result (carried self.now ≡ [])
             (λ front. carried self.now ≡ front.now ∷ drop 1 (carried self.now)) }
@@ -70,7 +70,7 @@ impl Line {
         Some(&self.octets[..size])
     }
 
-    // The n-th message from the front on.
+    /// The n-th message from the front on.
     #[tactic(auto, using(crate::proofs::Cuts::length_messages))]
     pub fn get(&self, n: usize) -> Option<&[u8]>
         ensures { MatchOption result (length (carried self.now) ≤ n)

@@ -5,7 +5,7 @@ use policy::Policy;
 use std::marker::Model;
 use supervision::Trunk;
 
-// An exchange with a table and a policy of its own, what it told, and the line out of it.
+/// An exchange with a table and a policy of its own, what it told, and the line out of it.
 #[derive(Drop)]
 pub struct End<P: Policy> {
     pub(crate) trunk: Trunk,

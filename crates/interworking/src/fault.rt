@@ -7,14 +7,14 @@ use std::alloc::AllocError;
 use std::error::Error;
 use std::fmt;
 
-// Why a step was not taken. Nothing is changed then.
+/// Why a step was not taken. Nothing is changed then.
 #[derive(Clone, Copy, PartialEq, Eq, Debug)]
 pub enum Fault {
-    // the operation is refused
+    /// the operation is refused
     Refused(Refusal),
-    // no message is on the line
+    /// no message is on the line
     Empty,
-    // memory is wanting
+    /// memory is wanting
     Memory,
 }
 

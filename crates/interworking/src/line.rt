@@ -2,7 +2,7 @@
 ghost use Rattle.std.specs.Prelude.{◌≡◌, length};
 ghost use Rattle.std.specs.List.{sum};
 
-// Messages in the order that they were sent, the front one first.
+/// Messages in the order that they were sent, the front one first.
 #[derive(Drop)]
 pub struct Line {
     // their octets in a row

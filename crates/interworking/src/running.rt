@@ -14,8 +14,8 @@ use status::Cic;
 use std::alloc::Global;
 
 impl<P: Policy, Q: Policy> Bench<P, Q> {
-    // Both newly opened with the same first CIC and equipment, the near one with the higher point
-    // code or the far one.
+    /// Both newly opened with the same first CIC and equipment, the near one with the higher point
+    /// code or the far one.
     pub fn open(
         alloc: Global,
         first: Cic,
@@ -38,22 +38,22 @@ impl<P: Policy, Q: Policy> Bench<P, Q> {
         Ok(Bench { near, far })
     }
 
-    // The near exchange.
+    /// The near exchange.
     pub fn near(&self) -> &End<P>
         ensures { result.now ≡ self.now.near }
     {
         &self.near
     }
 
-    // The far exchange.
+    /// The far exchange.
     pub fn far(&self) -> &End<Q>
         ensures { result.now ≡ self.now.far }
     {
         &self.far
     }
 
-    // Takes a step; how many words it told. A step that is refused, or for which memory is wanting,
-    // changes nothing.
+    /// Takes a step; how many words it told. A step that is refused, or for which memory is wanting,
+    /// changes nothing.
     pub fn step(&mut self, side: Side, step: Step<'_>) -> Result<usize, Fault>
         ensures done { Stepped side step.entry result self.old.near
             self.old.far self.new.near self.new.far }
@@ -65,7 +65,7 @@ impl<P: Policy, Q: Policy> Bench<P, Q> {
         }
     }
 
-    // Takes steps in a row, and goes on after those that are refused.
+    /// Takes steps in a row, and goes on after those that are refused.
     pub fn run(&mut self, steps: &[(Side, Step<'_>)])
         ensures done { Ran steps.now self.old.near self.old.far
             self.new.near self.new.far }

@@ -24,8 +24,8 @@ fn connected(table: &[Circuit]) -> usize
 }
 
 impl<P: Policy, Q: Policy> Bench<P, Q> {
-    // The most receives that empty both lines: six for each message on one, and two for each end of
-    // a call that is calling or talking.
+    /// The most receives that empty both lines: six for each message on one, and two for each end of
+    /// a call that is calling or talking.
     pub fn most_receives(&self) -> u128
         ensures { result ≡ most_receives self.now.near self.now.far }
     {
@@ -34,7 +34,7 @@ impl<P: Policy, Q: Policy> Bench<P, Q> {
         6 * messages + 2 * calls
     }
 
-    // An exchange into which the line is not empty.
+    /// An exchange into which the line is not empty.
     pub fn receiver(&self) -> Option<Side>
         ensures { MatchOption result ((self.now.near.line ≡ []) × (self.now.far.line ≡ []))
             (λ side. 0 < length (into side self.now.near self.now.far)) }
@@ -48,7 +48,7 @@ impl<P: Policy, Q: Policy> Bench<P, Q> {
         }
     }
 
-    // Receives until both lines are empty; how many messages that were. Only memory may be wanting.
+    /// Receives until both lines are empty; how many messages that were. Only memory may be wanting.
     pub fn settle(&mut self) -> Result<u128, Fault>
         ensures settled { Settled result self.old.near self.old.far self.new.near self.new.far }
         ensures promised { Agrees self.new.near self.new.far }

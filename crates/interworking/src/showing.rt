@@ -9,28 +9,28 @@ use policy::Policy;
 use supervision::Config;
 
 impl<P: Policy> End<P> {
-    // The numbers of its trunk.
+    /// The numbers of its trunk.
     pub fn config(&self) -> Config
         ensures { result ≡ self.now.config }
     {
         self.trunk.config()
     }
 
-    // Its circuits.
+    /// Its circuits.
     pub fn table(&self) -> &[Circuit]
         ensures { result.now ≡ self.now.table }
     {
         &self.table
     }
 
-    // All words told since opening.
+    /// All words told since opening.
     pub fn told(&self) -> &[u32]
         ensures { result.now ≡ self.now.told }
     {
         &self.told
     }
 
-    // The line out of it.
+    /// The line out of it.
     pub fn line(&self) -> &Line
         ensures { carried result.now ≡ self.now.line }
     {

@@ -1,10 +1,9 @@
 -- A message is accepted exactly where it is addressed to circuits of the table.
-use Rattle.std.proofs.Common.{◌≡◌, ℕ, ◌+◌, ◌-◌, ◌*◌, ◌%◌, ◌^◌, ◌<◌, ◌≤◌, Bool, true, false, not, ◌&&◌, eqb, ltb, leb, List, [], length, is_ok, Ok, sym, refl, ap, ◌∙◌, arith}
+use Rattle.std.proofs.Common.{◌↔◌, ◌≡◌, ℕ, ◌+◌, ◌-◌, ◌*◌, ◌%◌, ◌^◌, ◌<◌, ◌≤◌, Bool, true, false, not, ◌&&◌, eqb, ltb, leb, List, [], length, is_ok, Ok, sym, refl, ap, ◌∙◌, arith}
 use native.Mathlib.Nat.{zero-div}
 use Rattle.std.proofs.lemmas.Bool.{and_parts, and_right, eq-eqb, false≢true, le-leb, leb-true, lt-ltb}
 use Rattle.std.proofs.lemmas.Bool.Decides.{nat_tests}
 use Rattle.status.specs.Bits.{is_named, bit_at}
-use Rattle.message.specs.Laws.{Exactly}
 use Rattle.message.specs.Msg.{Msg, single, release_complete, group_reset, group_reset_ack, grouped, release, call}
 use Rattle.message.specs.declared.kinds.CallKind.TheVariants.{Iam, Acm, Con, Anm, Cpg}
 use Rattle.message.specs.declared.kinds.Grouped.TheVariants.{Cgb, Cgu, Cgba, Cgua}
@@ -25,12 +24,12 @@ use Rattle.laws.specs.Addressing.{IsCircuit, IsRange, IsNamed, Addressed, Messag
 use Rattle.laws.proofs.Places.{not_below}
 
 -- a test that does not refuse
-passing : (b : Bool) (m : Move) → Exactly (is_ok (unless (not b) Address (Ok m)) ≡ true) (b ≡ true)
+passing : (b : Bool) (m : Move) → ((is_ok (unless (not b) Address (Ok m)) ≡ true) ↔ (b ≡ true))
 passing true m = (λ h. refl, λ h. refl)
 passing false m = (λ h. absurd (false≢true h), λ h. absurd (false≢true h))
 
 -- the circuit of a CIC is there
-pub one_is : (t : Config) (c : ℕ) (T : List Circuit) → Exactly ((circuit_of t (as_cic c) T).equipped ≡ true) (IsCircuit t T c)
+pub one_is : (t : Config) (c : ℕ) (T : List Circuit) → (((circuit_of t (as_cic c) T).equipped ≡ true) ↔ (IsCircuit t T c))
 one_is t c T =
     let x = circuit_of t (as_cic c) T in (
       λ h. (not_below t (as_cic c) T h, sym (ap (λ (y : Circuit). y.equipped) (at_place t (as_cic c) T h)) ∙ h),
@@ -38,13 +37,13 @@ one_is t c T =
     )
 
 one_accepted : (t : Config) (c : ℕ) (T : List Circuit) (m : Move)
-    → Exactly (is_ok (unless (not (circuit_of t (as_cic c) T).equipped) Address (Ok m)) ≡ true) (IsCircuit t T c)
+    → ((is_ok (unless (not (circuit_of t (as_cic c) T).equipped) Address (Ok m)) ≡ true) ↔ (IsCircuit t T c))
 one_accepted t c T m =
     let i = one_is t c T in
     let p = passing (circuit_of t (as_cic c) T).equipped m in
     (λ h. i.0 (p.0 h), λ w. p.1 (i.1 w))
 
-is_in : (t : Config) (c r : ℕ) → Exactly (is_range t c r ≡ true) (IsRange t c r)
+is_in : (t : Config) (c r : ℕ) → ((is_range t c r ≡ true) ↔ (IsRange t c r))
 is_in t c r = (
   λ h.
       let w = and_parts (leb t.first.0 c) (ltb (c + r) (t.first.0 + places t)) h in
@@ -58,13 +57,13 @@ is_in t c r = (
     lower a b h = grind (arith, nat_tests)
 
 -- both tests of a message for a range
-both_pass : (a b : Bool) (m : Move) → Exactly (is_ok (unless (not a) Address (unless b Address (Ok m))) ≡ true) ((a ≡ true) × (b ≡ false))
+both_pass : (a b : Bool) (m : Move) → ((is_ok (unless (not a) Address (unless b Address (Ok m))) ≡ true) ↔ ((a ≡ true) × (b ≡ false)))
 both_pass true false m = (λ h. (refl, refl), λ w. refl)
 both_pass true true m = (λ h. absurd (false≢true h), λ w. absurd (false≢true (sym w.1)))
 both_pass false b m = (λ h. absurd (false≢true h), λ w. absurd (false≢true w.0))
 
 range_accepted : (t : Config) (c r : ℕ) (s : List ℕ) (m : Move) (T : List Circuit) → length T ≡ t.systems * 32
-    → Exactly (is_ok (to_range t c r s m T) ≡ true) (IsNamed t T c r s)
+    → ((is_ok (to_range t c r s m T) ≡ true) ↔ (IsNamed t T c r s))
 range_accepted t c r s m T size =
     let first = c - t.first.0 in
     let p = λ (k : ℕ) (y : Circuit). marked t c r s k && not y.equipped in
@@ -106,12 +105,12 @@ range_accepted t c r s m T size =
 nothing_named : (r n : ℕ) → is_named r [] n ≡ false
 nothing_named r n = and_right (leb n r) (eqb (bit_at [] n) 1) (rw (zero-div (2 ^ (n % 8))) refl)
 
-reset_accepted : (t : Config) (c r : ℕ) (m : Move) (T : List Circuit) → length T ≡ t.systems * 32 → Exactly (is_ok (to_range t c r [] m T) ≡ true) (IsRange t c r)
+reset_accepted : (t : Config) (c r : ℕ) (m : Move) (T : List Circuit) → length T ≡ t.systems * 32 → ((is_ok (to_range t c r [] m T) ≡ true) ↔ (IsRange t c r))
 reset_accepted t c r m T size =
     let w = range_accepted t c r [] m T size in
     (λ h. (w.0 h).0, λ i. w.1 (i, λ n e. absurd (false≢true (sym (nothing_named r n) ∙ e))))
 
-heard_accepted : (t : Config) (msg : Msg) (T : List Circuit) → length T ≡ t.systems * 32 → Exactly (is_ok (heard t msg T) ≡ true) (Addressed t T msg)
+heard_accepted : (t : Config) (msg : Msg) (T : List Circuit) → length T ≡ t.systems * 32 → ((is_ok (heard t msg T) ≡ true) ↔ (Addressed t T msg))
 heard_accepted t (single c Rsc) T size = one_accepted t c T _
 heard_accepted t (single c Blo) T size = one_accepted t c T _
 heard_accepted t (single c Ubl) T size = one_accepted t c T _

@@ -18,8 +18,8 @@ use Rattle.laws.specs.Blocks.{of_type, Standing, Clears, LocalMoves, FarMoves, R
 use Rattle.laws.specs.Blocks as says
 use Rattle.laws.specs.Events as on
 use Rattle.laws.specs.Events.{Event}
-use Rattle.told.specs.declared.kinds.Direction.TheVariants.{Incoming}
-use Rattle.told.specs.declared.kinds.EndCause.TheVariants as end
+use Rattle.words.specs.declared.kinds.Direction.TheVariants.{Incoming}
+use Rattle.words.specs.declared.kinds.EndCause.TheVariants as end
 use Rattle.laws.proofs.Call.{barred, unbarred}
 use Rattle.laws.proofs.Effect.{effect, may}
 

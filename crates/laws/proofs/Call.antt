@@ -1,6 +1,6 @@
 -- The rules keep the life of a call.
 use Rattle.std.proofs.Common.{◌≡◌, ◌≢◌, Bool, true, false, cond, Some, None, [], ◌∷◌, ◌++◌, refl, inl, inr, arith}
-use Rattle.status.specs.declared.circuit.Cic.{Cic}
+use Rattle.status.specs.declared.cic.Cic.{Cic}
 use Rattle.message.specs.declared.kinds.BlockType.{BlockType}
 use Rattle.message.specs.declared.kinds.BlockType.TheVariants.{Maintenance, Hardware}
 use Rattle.circuit.specs.Changes.{change, ended_if, quiet, with_call, with_fars, with_reset}
@@ -14,12 +14,12 @@ use Rattle.circuit.specs.declared.record.LocalBlock.TheVariants as local
 use Rattle.circuit.specs.declared.record.Reset.{Reset}
 use Rattle.circuit.specs.declared.record.Reset.TheVariants as reset
 use Rattle.circuit.specs.declared.record.Circuit.{Circuit}
-use Rattle.circuit.specs.declared.record.Cause.{Cause}
+use Rattle.circuit.specs.declared.record.CauseOctets.{CauseOctets}
 use Rattle.circuit.specs.declared.rules.Change.{Change}
-use Rattle.told.specs.declared.kinds.Direction.TheVariants.{Incoming}
-use Rattle.told.specs.declared.kinds.EndCause.{EndCause}
-use Rattle.told.specs.declared.kinds.EndCause.TheVariants as end
-use Rattle.told.specs.declared.kinds.Word.TheVariants.{Ended}
+use Rattle.words.specs.declared.kinds.Direction.TheVariants.{Incoming}
+use Rattle.words.specs.declared.kinds.EndCause.{EndCause}
+use Rattle.words.specs.declared.kinds.EndCause.TheVariants as end
+use Rattle.words.specs.declared.kinds.Word.TheVariants.{Ended}
 use Rattle.laws.specs.Events as on
 use Rattle.laws.specs.Events.{Event}
 use Rattle.laws.specs.Calls.{Connected, Barred, by_reset, by_hardware_block, by_maintenance_block, by_talking, by_releasing, by_control, Resets, HardwareBlocks, Lives, Untouched}
@@ -38,7 +38,7 @@ seizing ours cic c h = says.seizes (record {
   no_far = (grind arith, grind arith);
 })
 
-releasing : (ours : Bool) (cic : Cic) (cause : Cause) (c : Circuit) → LivesOn ours cic (on.released cause) c
+releasing : (ours : Bool) (cic : Cic) (cause : CauseOctets) (c : Circuit) → LivesOn ours cic (on.released cause) c
 releasing ours cic cause c = go c.call
   where
     go : (x : Call) → LivesOn ours cic (on.released cause) (with_call x c)

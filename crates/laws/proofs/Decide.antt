@@ -1,13 +1,13 @@
 -- The life of a call decides what becomes of it.
 use Rattle.std.proofs.Common.{◌≡◌, Bool, true, false, List, [], refl, sym, ◌∙◌, inl, inr, arith}
-use Rattle.status.specs.declared.circuit.Cic.{Cic}
+use Rattle.status.specs.declared.cic.Cic.{Cic}
 use Rattle.circuit.specs.Changes.{with_call}
 use Rattle.circuit.specs.Laws.{told_of}
 use Rattle.circuit.specs.Signals.{passes_iam}
 use Rattle.circuit.specs.declared.record.Call.{Call}
 use Rattle.circuit.specs.declared.record.Call.TheVariants.{Idle, Calling, Talking, Releasing}
 use Rattle.circuit.specs.declared.record.Circuit.{Circuit}
-use Rattle.told.specs.declared.kinds.Word.{Word}
+use Rattle.words.specs.declared.kinds.Word.{Word}
 use Rattle.laws.specs.Events as on
 use Rattle.laws.specs.Events.{Event}
 use Rattle.laws.specs.Calls.{Barred, Connected, Lives, Untouched, CallsDecided}

@@ -1,8 +1,7 @@
 -- What accepted expiries repeat.
-use Rattle.std.proofs.Common.{◌≡◌, ◌≢◌, ℕ, ◌+◌, Bool, true, false, cond, not, ◌&&◌, eqb, ltb, leb, List, [], ◌∷◌, Some, None, Ok, Option, refl, ap, ◌∙◌, subst, ⊎_elim, arith}
+use Rattle.std.proofs.Common.{◌↔◌, ◌≡◌, ◌≢◌, ℕ, ◌+◌, Bool, true, false, cond, not, ◌&&◌, eqb, ltb, leb, List, [], ◌∷◌, Some, None, Ok, Option, refl, ap, ◌∙◌, subst, ⊎_elim, arith}
 use Rattle.std.proofs.lemmas.Bool.{cases_Bool, not-false, false≢true}
-use Rattle.status.specs.declared.circuit.Cic.{Cic}
-use Rattle.message.specs.Laws.{Exactly}
+use Rattle.status.specs.declared.cic.Cic.{Cic}
 use Rattle.message.specs.Msg.{Msg, single, group_reset}
 use Rattle.message.specs.declared.kinds.BlockType.{BlockType}
 use Rattle.message.specs.declared.kinds.BlockType.TheVariants.{Maintenance}
@@ -17,9 +16,9 @@ use Rattle.circuit.specs.declared.record.LocalBlock.TheVariants as local
 use Rattle.circuit.specs.declared.record.Reset.TheVariants as reset
 use Rattle.circuit.specs.declared.rules.Change.{Change}
 use Rattle.circuit.specs.declared.rules.Rule.TheVariants as rule
-use Rattle.told.specs.Words.{timer_of}
-use Rattle.told.specs.declared.kinds.Timer.{Timer}
-use Rattle.told.specs.declared.kinds.Timer.TheVariants.{T1, T5, T12, T13, T14, T15, T16, T17, T18, T19, T20, T21, T22, T23}
+use Rattle.words.specs.Words.{timer_of}
+use Rattle.words.specs.declared.kinds.Timer.{Timer}
+use Rattle.words.specs.declared.kinds.Timer.TheVariants.{T1, T5, T12, T13, T14, T15, T16, T17, T18, T19, T20, T21, T22, T23}
 use Rattle.refusal.specs.declared.reasons.Refusal.TheVariants.{Address, Argument}
 use Rattle.refusal.specs.Refusals.{and_then}
 use Rattle.supervision.specs.Expiring.{repeating, repeats_one, repeats_group, repeats_reset, asked_for, lifting_for, alert_at, alerting, gives_up, expired, timed}
@@ -44,12 +43,12 @@ use Rattle.laws.proofs.Places.{type_named}
 use Rattle.laws.proofs.Send.{singly_sends, both_said, itself, asked_said, lifting_said, releasing_said, single_said, group_said, type_said}
 
 -- repeated where the test holds, else nothing
-repeats_if : {P : Type 0} (b : Bool) (msg : Msg) (alert : Option (Timer × Cic)) → Exactly (b ≡ true) P → Repeats P msg alert (cond b (repeating (msg ∷ []) alert) nothing)
+repeats_if : {P : Type 0} (b : Bool) (msg : Msg) (alert : Option (Timer × Cic)) → ((b ≡ true) ↔ P) → Repeats P msg alert (cond b (repeating (msg ∷ []) alert) nothing)
 repeats_if true msg alert e = record { waits = λ p. (refl, refl); does_not = λ n. absurd (n (e.0 refl)) }
 repeats_if false msg alert e = record { waits = λ p. absurd (false≢true (e.1 p)); does_not = λ n. (refl, refl) }
 
 one_repeats : (t : Config) (c : ℕ) (waits : Circuit → Bool) (P : Circuit → Type 0) (message : Circuit → Msg) (alert : Option (Timer × Cic)) (T : List Circuit) (m : Move)
-    → ((x : Circuit) → Exactly (waits x ≡ true) (P x)) → repeats_one t c waits message alert T ≡ Ok m
+    → ((x : Circuit) → ((waits x ≡ true) ↔ (P x))) → repeats_one t c waits message alert T ≡ Ok m
     → Repeats (P (at_cic t T c)) (message (at_cic t T c)) alert m
 one_repeats t c waits P message alert T m e h =
     let x = circuit_of t (as_cic c) T in
@@ -68,7 +67,7 @@ t5_repeats t c T m h =
     subst (λ (y : Circuit). Repeats (y.call ≡ Releasing) (single c Rsc) (told_at T5 c) m) at
     (go (is_releasing x.call) (releasing_said x.call) found.1)
   where
-    go : {P : Type 0} (b : Bool) → Exactly (b ≡ true) P
+    go : {P : Type 0} (b : Bool) → ((b ≡ true) ↔ P)
         → cond b (and_then (singly t (as_cic c) (rule.Reset reset.Single) (single c Rsc) T) (λ y. Ok (alerting (alert_at T5 c) y))) (Ok nothing) ≡ Ok m
         → Repeats P (single c Rsc) (told_at T5 c) m
     go {P} false e g = subst (λ (y : Move). Repeats P (single c Rsc) (told_at T5 c) y) (same_move nothing m g) (repeats_if false (single c Rsc) (told_at T5 c) e)
@@ -80,7 +79,7 @@ t5_repeats t c T m h =
 
 -- a group message, by the blocks that wait
 group_repeats : (t : Config) (system kind : ℕ) (what : Grouped) (waits : BlockType → Circuit → Bool) (state : LocalBlock) (alert : Option (Timer × Cic)) (T : List Circuit) (m : Move)
-    → ((why : BlockType) (x : Circuit) → Exactly (waits why x ≡ true) (of_type why x.local ≡ state)) → repeats_group t system kind what waits alert T ≡ Ok m
+    → ((why : BlockType) (x : Circuit) → ((waits why x ≡ true) ↔ (of_type why x.local ≡ state))) → repeats_group t system kind what waits alert T ≡ Ok m
     → RepeatsGroup t T what (type_told kind) state system alert m
 group_repeats t system kind what waits state alert T m e h =
     subst (λ (y : Move). RepeatsGroup t T what (type_told kind) state system alert y)
@@ -132,10 +131,10 @@ reset_repeats t system alert T m h =
     go true q = record { waits = λ c. absurd (none_concerned p P T system r q c); does_not = λ n. (refl, refl) }
     go false q = record { waits = λ c. (refl, refl); does_not = λ n. absurd (n (some_concerned p P T system r q)) }
 
-asked_waits : (why : BlockType) (x : Circuit) → Exactly (asked_for why x ≡ true) (of_type why x.local ≡ local.Asked)
+asked_waits : (why : BlockType) (x : Circuit) → ((asked_for why x ≡ true) ↔ (of_type why x.local ≡ local.Asked))
 asked_waits why x = rw (type_said why x.local) (asked_said (of_type why x.local))
 
-lifting_waits : (why : BlockType) (x : Circuit) → Exactly (lifting_for why x ≡ true) (of_type why x.local ≡ local.Lifting)
+lifting_waits : (why : BlockType) (x : Circuit) → ((lifting_for why x ≡ true) ↔ (of_type why x.local ≡ local.Lifting))
 lifting_waits why x = rw (type_said why x.local) (lifting_said (of_type why x.local))
 
 expires : (t : Config) (timer : Timer) (at kind : ℕ) (T : List Circuit) (m : Move) → expired t timer at kind T ≡ Ok m → Expires t T timer at kind m

@@ -3,7 +3,7 @@ use Rattle.std.proofs.Common.{◌≡◌, ℕ, ◌+◌, ◌-◌, ◌<◌, ◌≤�
 use Rattle.std.proofs.lemmas.Bool.{eqb-true, not-false, false≢true, cases_lt}
 use Rattle.std.proofs.lemmas.List.{get_or_past}
 use Rattle.status.specs.Bits.{is_named}
-use Rattle.status.specs.declared.circuit.Cic.{Cic}
+use Rattle.status.specs.declared.cic.Cic.{Cic}
 use Rattle.message.specs.Decode.{decode}
 use Rattle.message.specs.Msg.{Msg, single, release_complete, group_reset, group_reset_ack, grouped, release, call}
 use Rattle.message.specs.declared.fault.MessageFault.{MessageFault}
@@ -20,14 +20,14 @@ use Rattle.circuit.specs.Laws.{allows}
 use Rattle.circuit.specs.Orders.{applied}
 use Rattle.circuit.specs.Signals.{on_iam, on_progress, on_rel, on_rlc, on_far_block, on_far_unblock, on_block_ack, on_unblock_ack, on_rsc, on_grs, on_gra}
 use Rattle.circuit.specs.declared.record.Circuit.{Circuit}
-use Rattle.circuit.specs.declared.record.Cause.{Cause}
+use Rattle.circuit.specs.declared.record.CauseOctets.{CauseOctets}
 use Rattle.circuit.specs.declared.record.Reset.TheVariants as reset
 use Rattle.circuit.specs.declared.rules.Change.{Change}
 use Rattle.circuit.specs.declared.rules.Rule.{Rule}
 use Rattle.circuit.specs.declared.rules.Rule.TheVariants as rule
-use Rattle.told.specs.Words.{timer_of}
-use Rattle.told.specs.declared.kinds.Timer.{Timer}
-use Rattle.told.specs.declared.kinds.Timer.TheVariants.{T1, T5, T12, T13, T14, T15, T16, T17, T18, T19, T20, T21, T22, T23}
+use Rattle.words.specs.Words.{timer_of}
+use Rattle.words.specs.declared.kinds.Timer.{Timer}
+use Rattle.words.specs.declared.kinds.Timer.TheVariants.{T1, T5, T12, T13, T14, T15, T16, T17, T18, T19, T20, T21, T22, T23}
 use Rattle.refusal.specs.declared.reasons.Refusal.{Refusal}
 use Rattle.refusal.specs.declared.reasons.Refusal.TheVariants.{Address, State, Argument, Choice}
 use Rattle.refusal.specs.Refusals.{raised, unless, and_then}
@@ -130,7 +130,7 @@ unblock_orders why = record { does = λ ours c. refl; asks = λ c h. h }
 reset_orders : Orders (rule.Reset reset.Single) on.circuit_reset
 reset_orders = record { does = λ ours c. refl; asks = λ c h. h }
 
-release_orders : (cause : Cause) → Orders (rule.Release cause) (on.released cause)
+release_orders : (cause : CauseOctets) → Orders (rule.Release cause) (on.released cause)
 release_orders cause = record { does = λ ours c. refl; asks = λ c h. h }
 
 clear_ordered : (t : Config) (system : ℕ) (T : List Circuit) (m : Move) (k : ℕ) → clearing t system ≡ Ok m → (placed T k).equipped ≡ true
@@ -172,7 +172,7 @@ order_met t room (order_release cic location value) l m k h b q =
     let z = same_cause _ c.0 d.1 in
     rw z (one_ordered t cic (rule.Release c.0) (on.released c.0) (release_message cic.0 c.0) l.table m k (release_orders c.0) c.2 q)
   where
-    same_cause : (x y : Cause) → ◌≡◌ {A = Result Cause Refusal} (Ok x) (Ok y) → x ≡ y
+    same_cause : (x y : CauseOctets) → ◌≡◌ {A = Result CauseOctets Refusal} (Ok x) (Ok y) → x ≡ y
     same_cause x y e = cc
 order_met t room (block cic) l m k h b q =
     one_ordered t cic (rule.Block Maintenance) (on.blocked Maintenance) (single cic.0 Blo) l.table m k (block_orders Maintenance)

@@ -1,10 +1,9 @@
 -- Statuses and group messages of ours name what their tests say.
-use Rattle.std.proofs.Common.{◌≡◌, ℕ, zero, suc, ◌+◌, ◌*◌, ◌/◌, ◌%◌, ◌^◌, ◌<◌, ◌≤◌, Bool, true, false, cond, ◌&&◌, eqb, ltb, leb, List, [], ◌∷◌, ◌++◌, get_or, sym, refl, ap, ◌∙◌, ⊎_elim, arith}
+use Rattle.std.proofs.Common.{◌↔◌, ◌≡◌, ℕ, zero, suc, ◌+◌, ◌*◌, ◌/◌, ◌%◌, ◌^◌, ◌<◌, ◌≤◌, Bool, true, false, cond, ◌&&◌, eqb, ltb, leb, List, [], ◌∷◌, ◌++◌, get_or, sym, refl, ap, ◌∙◌, ⊎_elim, arith}
 use native.Mathlib.Nat.{zero-div}
 use Rattle.std.proofs.lemmas.Bool.{cases_lt, false≢true, eq-eqb, eqb-true, le-leb, lt-leb, lt-ltb, and_parts}
 use Rattle.std.proofs.lemmas.List.{append-nil, get_or_past}
 use Rattle.status.specs.Bits.{bit_at, octets_for}
-use Rattle.message.specs.Laws.{Exactly}
 use Rattle.message.specs.Msg.{Msg}
 use Rattle.message.specs.declared.kinds.BlockType.{BlockType}
 use Rattle.message.specs.declared.kinds.Grouped.{Grouped}
@@ -53,17 +52,17 @@ statuses_tell q r = record {
 
 -- a test says what P says
 abbrev pub Reflects : (ℕ → Circuit → Bool) → (ℕ → Circuit → Type 0) → Type 0
-Reflects p P = (k : ℕ) (x : Circuit) → Exactly (p k x ≡ true) (P k x)
+Reflects p P = (k : ℕ) (x : Circuit) → ((p k x ≡ true) ↔ (P k x))
 
 abbrev slot_test : (ℕ → Circuit → Bool) → ℕ → List Circuit → ℕ → Bool
 slot_test p system T slot = ltb 0 slot && p (system * 32 + slot) (placed T (system * 32 + slot))
 
 -- a bit is 1 where the test that it is made of holds
-bit_one : (x : ℕ) (b : Bool) → eqb x 1 ≡ b → Exactly (x ≡ 1) (b ≡ true)
+bit_one : (x : ℕ) (b : Bool) → eqb x 1 ≡ b → ((x ≡ 1) ↔ (b ≡ true))
 bit_one x b e = (λ h. sym e ∙ eq-eqb x 1 h, λ h. eqb-true x 1 (e ∙ h))
 
 -- the status of a mask, if each of its bits is as P says
-pub mask_tells : (mask : ℕ) (P : ℕ → Type 0) → mask < 2 ^ 32 → ((n : ℕ) → n ≤ 30 → Exactly (mask / 2 ^ (n + 1) % 2 ≡ 1) (P n)) → Tells P 30 (status_of mask)
+pub mask_tells : (mask : ℕ) (P : ℕ → Type 0) → mask < 2 ^ 32 → ((n : ℕ) → n ≤ 30 → ((mask / 2 ^ (n + 1) % 2 ≡ 1) ↔ (P n))) → Tells P 30 (status_of mask)
 mask_tells mask P small h = record {
   size = refl;
   bits = λ n l.

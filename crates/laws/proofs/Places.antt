@@ -1,7 +1,7 @@
 -- Which circuits an operation names: by place in the rules, by CIC in the laws.
 use Rattle.std.proofs.Common.{◌≡◌, ℕ, zero, suc, ◌+◌, ◌-◌, ◌/◌, ◌%◌, ◌<◌, ◌≤◌, Bool, true, false, ◌&&◌, eqb, ltb, leb, List, sym, refl, ◌∙◌, ⊎_elim, arith}
 use Rattle.std.proofs.lemmas.Bool.{cases_lt, eqb-true, eq-eqb, leb-true, le-leb, ne_eqb, and_parts, false≢true}
-use Rattle.status.specs.declared.circuit.Cic.{Cic}
+use Rattle.status.specs.declared.cic.Cic.{Cic}
 use Rattle.circuit.specs.declared.record.Circuit.{Circuit}
 use Rattle.supervision.specs.Orders.{circuit_of, slots, every_slot, why_of}
 use Rattle.supervision.specs.Receiving.{is_range, in_range, marked}

@@ -1,10 +1,9 @@
 -- What accepted operations send.
-use Rattle.std.proofs.Common.{◌≡◌, ◌≢◌, ℕ, ◌+◌, ◌-◌, ◌*◌, ◌/◌, ◌%◌, ◌^◌, ◌<◌, ◌≤◌, Bool, true, false, cond, not, ◌&&◌, ◌||◌, eqb, ltb, leb, List, [], ◌∷◌, ◌++◌, Some, None, Ok, Err, Option, Result, sym, refl, ap, ◌∙◌, subst, inl, inr, ⊎_elim, arith}
+use Rattle.std.proofs.Common.{◌↔◌, ◌≡◌, ◌≢◌, ℕ, ◌+◌, ◌-◌, ◌*◌, ◌/◌, ◌%◌, ◌^◌, ◌<◌, ◌≤◌, Bool, true, false, cond, not, ◌&&◌, ◌||◌, eqb, ltb, leb, List, [], ◌∷◌, ◌++◌, Some, None, Ok, Err, Option, Result, sym, refl, ap, ◌∙◌, subst, inl, inr, ⊎_elim, arith}
 use Rattle.std.proofs.lemmas.Bool.{eqb-true, eq-eqb, not-false, and_parts, false≢true, le-leb}
 use Rattle.status.specs.Bits.{is_named}
-use Rattle.status.specs.declared.circuit.Cic.{Cic}
+use Rattle.status.specs.declared.cic.Cic.{Cic}
 use Rattle.message.specs.Decode.{decode}
-use Rattle.message.specs.Laws.{Exactly}
 use Rattle.message.specs.Msg.{Msg, single, release_complete, group_reset, group_reset_ack, grouped, release, call}
 use Rattle.message.specs.declared.fault.MessageFault.{MessageFault}
 use Rattle.message.specs.declared.kinds.BlockType.{BlockType}
@@ -20,7 +19,7 @@ use Rattle.circuit.specs.Signals.{on_far_block, on_far_unblock, on_block_ack, on
 use Rattle.circuit.specs.declared.record.Blocks.{Blocks}
 use Rattle.circuit.specs.declared.record.Call.{Call}
 use Rattle.circuit.specs.declared.record.Call.TheVariants.{Idle, Calling, Talking, Releasing}
-use Rattle.circuit.specs.declared.record.Cause.{Cause}
+use Rattle.circuit.specs.declared.record.CauseOctets.{CauseOctets}
 use Rattle.circuit.specs.declared.record.Circuit.{Circuit}
 use Rattle.circuit.specs.declared.record.LocalBlock.{LocalBlock}
 use Rattle.circuit.specs.declared.record.LocalBlock.TheVariants as local
@@ -123,7 +122,7 @@ orders_send t room (order_release cic location value) l m h =
     let s = singly_sends t cic (rule.Release c.0) (release_message cic.0 c.0) l.table m c.2 in
     (s.sends ∙ ap (λ x. release_message cic.0 x ∷ []) (sym (same_cause _ c.0 d.1)), s.silent)
   where
-    same_cause : (x y : Cause) → ◌≡◌ {A = Result Cause Refusal} (Ok x) (Ok y) → x ≡ y
+    same_cause : (x y : CauseOctets) → ◌≡◌ {A = Result CauseOctets Refusal} (Ok x) (Ok y) → x ≡ y
     same_cause x y e = cc
 orders_send t room (block cic) l m h =
     both (singly_sends t cic (rule.Block Maintenance) (single cic.0 Blo) l.table m
@@ -144,28 +143,28 @@ orders_send t room (order_group_reset system) l m h =
 
 -- ## Tests and what they say
 
-standing_said : (b : LocalBlock) → Exactly (is_standing b ≡ true) (Standing b)
+standing_said : (b : LocalBlock) → ((is_standing b ≡ true) ↔ (Standing b))
 standing_said local.None = (λ h. absurd (false≢true h), ⊎_elim (λ e. absurd (grind arith)) (λ e. absurd (grind arith)))
 standing_said local.Asked = (λ h. inl refl, λ s. refl)
 standing_said local.Set = (λ h. inr refl, λ s. refl)
 standing_said local.Lifting = (λ h. absurd (false≢true h), ⊎_elim (λ e. absurd (grind arith)) (λ e. absurd (grind arith)))
 
-none_said : (b : LocalBlock) → Exactly (is_none b ≡ true) (b ≡ local.None)
+none_said : (b : LocalBlock) → ((is_none b ≡ true) ↔ (b ≡ local.None))
 none_said b = (λ h. grind arith, λ e. rw e refl)
 
-pub asked_said : (b : LocalBlock) → Exactly (is_asked b ≡ true) (b ≡ local.Asked)
+pub asked_said : (b : LocalBlock) → ((is_asked b ≡ true) ↔ (b ≡ local.Asked))
 asked_said b = (λ h. grind arith, λ e. rw e refl)
 
-pub lifting_said : (b : LocalBlock) → Exactly (is_lifting b ≡ true) (b ≡ local.Lifting)
+pub lifting_said : (b : LocalBlock) → ((is_lifting b ≡ true) ↔ (b ≡ local.Lifting))
 lifting_said b = (λ h. grind arith, λ e. rw e refl)
 
-pub releasing_said : (x : Call) → Exactly (is_releasing x ≡ true) (x ≡ Releasing)
+pub releasing_said : (x : Call) → ((is_releasing x ≡ true) ↔ (x ≡ Releasing))
 releasing_said x = (λ h. grind arith, λ e. rw e refl)
 
-pub single_said : (r : Reset) → Exactly (is_single r ≡ true) (r ≡ reset.Single)
+pub single_said : (r : Reset) → ((is_single r ≡ true) ↔ (r ≡ reset.Single))
 single_said r = (λ h. grind arith, λ e. rw e refl)
 
-pub group_said : (r : Reset) → Exactly (is_group r ≡ true) (r ≡ reset.Group)
+pub group_said : (r : Reset) → ((is_group r ≡ true) ↔ (r ≡ reset.Group))
 group_said r = (λ h. grind arith, λ e. rw e refl)
 
 pub type_said : (why : BlockType) (b : Blocks LocalBlock) → block_of why b ≡ of_type why b
@@ -173,21 +172,21 @@ type_said Maintenance b = refl
 type_said Hardware b = refl
 
 -- both tests
-pub both_said : {P Q : Type 0} (a b : Bool) → Exactly (a ≡ true) P → Exactly (b ≡ true) Q → Exactly ((a && b) ≡ true) (P × Q)
+pub both_said : {P Q : Type 0} (a b : Bool) → ((a ≡ true) ↔ P) → ((b ≡ true) ↔ Q) → (((a && b) ≡ true) ↔ (P × Q))
 both_said true true x y = (λ h. (x.0 refl, y.0 refl), λ w. refl)
 both_said true false x y = (λ h. absurd (false≢true h), λ w. absurd (false≢true (y.1 w.1)))
 both_said false b x y = (λ h. absurd (false≢true h), λ w. absurd (false≢true (x.1 w.0)))
 
-pub itself : (b : Bool) → Exactly (b ≡ true) (b ≡ true)
+pub itself : (b : Bool) → ((b ≡ true) ↔ (b ≡ true))
 itself b = (λ h. h, λ h. h)
 
-pub connected_said : (x : Call) → Exactly (is_connected x ≡ true) (Connected x)
+pub connected_said : (x : Call) → ((is_connected x ≡ true) ↔ (Connected x))
 connected_said Idle = (λ h. absurd (false≢true h), ⊎_elim (λ e. absurd (grind arith)) (λ e. absurd (grind arith)))
 connected_said Calling = (λ h. inl refl, λ s. refl)
 connected_said Talking = (λ h. inr refl, λ s. refl)
 connected_said Releasing = (λ h. absurd (false≢true h), ⊎_elim (λ e. absurd (grind arith)) (λ e. absurd (grind arith)))
 
-unexpected_said : (x : Circuit) → Exactly (is_unexpected x ≡ true) (Unexpected x)
+unexpected_said : (x : Circuit) → ((is_unexpected x ≡ true) ↔ (Unexpected x))
 unexpected_said x = (
   λ h. let p = and_parts (not (is_single x.reset)) (is_connected x.call) h in ((connected_said x.call).0 p.1, λ e. not_single x.reset p.0 e),
   λ w. rw (other x.reset w.1, (connected_said x.call).1 w.0) refl,
@@ -201,7 +200,7 @@ unexpected_said x = (
     other reset.Single n = absurd (n refl)
     other reset.Group n = refl
 
-one_if : {P : Type 0} (b : Bool) (msg : Msg) → Exactly (b ≡ true) P → OneIf P msg (if_so b msg)
+one_if : {P : Type 0} (b : Bool) (msg : Msg) → ((b ≡ true) ↔ P) → OneIf P msg (if_so b msg)
 one_if true msg e = (λ p. refl, λ n. absurd (n (e.0 refl)))
 one_if false msg e = (λ p. absurd (false≢true (e.1 p)), λ n. refl)
 
@@ -234,7 +233,7 @@ no_move : (named : ℕ → Bool) (rule : ℕ → Circuit → Change) (sent : Lis
 no_move named rule sent m e = subst (λ (y : Move). Sends y sent) e (record { sends = refl; silent = refl })
 
 -- the CIC c is that of the place
-place_said : (t : Config) (c k : ℕ) → t.first.0 ≤ c → Exactly (eqb k (c - t.first.0) ≡ true) (t.first.0 + k ≡ c)
+place_said : (t : Config) (c k : ℕ) → t.first.0 ≤ c → ((eqb k (c - t.first.0) ≡ true) ↔ (t.first.0 + k ≡ c))
 place_said t c k l =
     let n = one_named t.first.0 c k l in
     (λ h. sym (eqb-true c (t.first.0 + k) (sym n ∙ h)), λ e. n ∙ eq-eqb c (t.first.0 + k) (sym e))
@@ -252,7 +251,7 @@ rsc_sends t c T l = (
 
 -- acknowledgements: one message for each PCM system with a circuit that is named and whose block is as the test says
 acks_send : (t : Config) (what : Grouped) (c r i : ℕ) (s : List ℕ) (f : BlockType → Circuit → Change) (p : LocalBlock → Bool) (P : LocalBlock → Type 0) (T : List Circuit) (m : Move)
-    → ((b : LocalBlock) → Exactly (p b ≡ true) (P b))
+    → ((b : LocalBlock) → ((p b ≡ true) ↔ (P b)))
     → to_range t c r s (moving (marked t c r s) (λ _. f (why_of i)) (groups t what (why_of i) (λ k x. marked t c r s k && p (block_of (why_of i) x.local)) T)) T ≡ Ok m
     → EachNames t what (type_told i) (λ k x. (names c r s (t.first.0 + k) ≡ true) × P (of_type (type_told i) x.local)) T t.systems m.sent × (m.alert ≡ None)
 acks_send t what c r i s f p P T m e h =
@@ -266,7 +265,7 @@ acks_send t what c r i s f p P T m e h =
     (rw (type_said (why_of i) x.local) (e (of_type (why_of i) x.local))))))
 
 -- a status that tells P tells what P says
-tells_as : (P Q : ℕ → Type 0) (r : ℕ) (s : List ℕ) → ((n : ℕ) → Exactly (P n) (Q n)) → Tells P r s → Tells Q r s
+tells_as : (P Q : ℕ → Type 0) (r : ℕ) (s : List ℕ) → ((n : ℕ) → ((P n) ↔ (Q n))) → Tells P r s → Tells Q r s
 tells_as P Q r s e w = record {
   size = w.size;
   bits = λ n l. (λ h. (e n).0 ((w.bits n l).0 h), λ h. (w.bits n l).1 ((e n).1 h));

@@ -1,16 +1,16 @@
 -- The words of a move follow one another in their order.
 use Rattle.std.proofs.Common.{◌≡◌, ℕ, suc, ◌+◌, ◌≤◌, List, [], ◌∷◌, ◌++◌, length, Some, None, Option, sym, refl, subst, append_assoc, arith}
-use Rattle.status.specs.declared.circuit.Cic.{Cic}
+use Rattle.status.specs.declared.cic.Cic.{Cic}
 use Rattle.message.specs.Encode.{encode}
 use Rattle.message.specs.Msg.{Msg}
 use Rattle.circuit.specs.Laws.{told_of, end_word, begin_word}
 use Rattle.circuit.specs.declared.record.Circuit.{Circuit}
 use Rattle.circuit.specs.declared.rules.Change.{Change}
-use Rattle.told.specs.declared.kinds.Direction.{Direction}
-use Rattle.told.specs.declared.kinds.EndCause.{EndCause}
-use Rattle.told.specs.declared.kinds.Timer.{Timer}
-use Rattle.told.specs.declared.kinds.Word.{Word}
-use Rattle.told.specs.declared.kinds.Word.TheVariants.{Send, Begun, Ended, Alert}
+use Rattle.words.specs.declared.kinds.Direction.{Direction}
+use Rattle.words.specs.declared.kinds.EndCause.{EndCause}
+use Rattle.words.specs.declared.kinds.Timer.{Timer}
+use Rattle.words.specs.declared.kinds.Word.{Word}
+use Rattle.words.specs.declared.kinds.Word.TheVariants.{Send, Begun, Ended, Alert}
 use Rattle.supervision.specs.Moves.{told_from, sends_from, alert_word, step_of}
 use Rattle.supervision.specs.Trunks.{cic_at}
 use Rattle.supervision.specs.declared.trunk.Config.{Config}

@@ -1,15 +1,14 @@
 -- Which messages, orders and expiries are accepted.
-use Rattle.std.specs.Prelude.{◌≡◌, ◌≢◌, ℕ, ◌+◌, ◌-◌, ◌*◌, ◌%◌, ◌<◌, ◌≤◌, true, List, length, is_ok, Some, None, Ok, Option}
+use Rattle.std.specs.Prelude.{◌↔◌, ◌≡◌, ◌≢◌, ℕ, ◌+◌, ◌-◌, ◌*◌, ◌%◌, ◌<◌, ◌≤◌, true, List, length, is_ok, Some, None, Ok, Option}
 use Rattle.status.specs.Bits.{is_named}
 use Rattle.message.specs.Decode.{decode}
-use Rattle.message.specs.Laws.{Exactly}
 use Rattle.message.specs.Msg.{Msg, single, release_complete, group_reset, group_reset_ack, grouped, release, call}
 use Rattle.circuit.specs.declared.record.Call.TheVariants.{Releasing}
 use Rattle.circuit.specs.declared.record.Circuit.{Circuit}
 use Rattle.circuit.specs.declared.record.Reset.TheVariants as reset
-use Rattle.told.specs.Words.{timer_of}
-use Rattle.told.specs.declared.kinds.Timer.{Timer}
-use Rattle.told.specs.declared.kinds.Timer.TheVariants.{T1, T5, T12, T13, T14, T15, T16, T17, T18, T19, T20, T21, T22, T23}
+use Rattle.words.specs.Words.{timer_of}
+use Rattle.words.specs.declared.kinds.Timer.{Timer}
+use Rattle.words.specs.declared.kinds.Timer.TheVariants.{T1, T5, T12, T13, T14, T15, T16, T17, T18, T19, T20, T21, T22, T23}
 use Rattle.supervision.specs.Answering as of
 use Rattle.supervision.specs.Answering.{Order, answer}
 use Rattle.supervision.specs.Expiring.{expiring}
@@ -19,6 +18,7 @@ use Rattle.supervision.specs.Trunks.{placed}
 use Rattle.supervision.specs.declared.trunk.Config.{Config}
 use Rattle.laws.specs.Calls.{Connected, Open}
 use Rattle.laws.specs.Events.{in_mask}
+use Rattle.supervision.specs.declared.limits.TheConstants.{SLOTS}
 
 -- the CIC is that of a circuit
 abbrev pub IsCircuit : Config → List Circuit → ℕ → Type 0
@@ -26,7 +26,7 @@ IsCircuit t T c = (t.first.0 ≤ c) × ((placed T (c - t.first.0)).equipped ≡ 
 
 -- the CICs c to c + r are all of the table
 abbrev pub IsRange : Config → ℕ → ℕ → Type 0
-IsRange t c r = (t.first.0 ≤ c) × (c + r < t.first.0 + t.systems * 32)
+IsRange t c r = (t.first.0 ≤ c) × (c + r < t.first.0 + t.systems * SLOTS)
 
 -- so, and each set bit is that of a circuit
 abbrev pub IsNamed : Config → List Circuit → ℕ → ℕ → List ℕ → Type 0
@@ -44,7 +44,7 @@ Addressed t T (group_reset_ack c r s) = IsNamed t T c r s
 -- where enough is lent, a message that can be read is accepted exactly where it is addressed to such circuits
 abbrev pub MessagesAccepted : Type 0
 MessagesAccepted = (t : Config) (room : ℕ) (octets : List ℕ) (lent : Lent) (message : Msg) → Suffices t room lent → decode octets ≡ Ok message
-    → Exactly (is_ok (receiving t room octets lent) ≡ true) (Addressed t lent.table message)
+    → ((is_ok (receiving t room octets lent) ≡ true) ↔ (Addressed t lent.table message))
 
 -- each time slot of a mask is a circuit without a waiting reset; time slot 0 is none
 pub record IsMask (t : Config) (T : List Circuit) (system mask : ℕ) : Type 0 where
@@ -69,7 +69,7 @@ Acceptable t T (of.group_reset system) = system < t.systems
 -- where enough is lent, an order is accepted exactly if it is acceptable
 abbrev pub OrdersAccepted : Type 0
 OrdersAccepted = (t : Config) (room : ℕ) (o : Order) (lent : Lent) → Suffices t room lent
-    → Exactly (is_ok (answer t room o lent) ≡ true) (Acceptable t lent.table o)
+    → ((is_ok (answer t room o lent) ≡ true) ↔ (Acceptable t lent.table o))
 
 -- the CIC of a circuit, or a PCM system of the trunk and a type, as the timer asks
 abbrev pub Expirable : Config → List Circuit → Option Timer → ℕ → ℕ → Type 0
@@ -94,4 +94,4 @@ Expirable t T (Some T23) at kind = at < t.systems
 -- where enough is lent, an expiry is accepted exactly if it names such
 abbrev pub ExpiriesAccepted : Type 0
 ExpiriesAccepted = (t : Config) (room timer at kind : ℕ) (lent : Lent) → Suffices t room lent
-    → Exactly (is_ok (expiring t room timer at kind lent) ≡ true) (Expirable t lent.table (timer_of timer) at kind)
+    → ((is_ok (expiring t room timer at kind lent) ≡ true) ↔ (Expirable t lent.table (timer_of timer) at kind))

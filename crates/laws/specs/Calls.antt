@@ -1,18 +1,18 @@
 -- The life of a call: from which call, by which event, to which call, and what is told.
 use Rattle.std.specs.Prelude.{◌≡◌, ◌≢◌, ◌⊎◌, ℕ, ◌+◌, ◌<◌, ◌%◌, Bool, true, false, List, [], ◌∷◌, length, Ok, ◌==◌}
-use Rattle.status.specs.declared.circuit.Cic.{Cic}
+use Rattle.status.specs.declared.cic.Cic.{Cic}
 use Rattle.message.specs.declared.kinds.BlockType.{BlockType}
 use Rattle.message.specs.declared.kinds.BlockType.TheVariants.{Maintenance, Hardware}
 use Rattle.circuit.specs.declared.record.Call.{Call}
 use Rattle.circuit.specs.declared.record.Call.TheVariants.{Idle, Calling, Talking, Releasing}
 use Rattle.circuit.specs.declared.record.LocalBlock.TheVariants as local
 use Rattle.circuit.specs.declared.record.Reset.TheVariants as reset
-use Rattle.circuit.specs.declared.record.Cause.{Cause}
+use Rattle.circuit.specs.declared.record.CauseOctets.{CauseOctets}
 use Rattle.circuit.specs.declared.record.Circuit.{Circuit}
-use Rattle.told.specs.declared.kinds.Direction.TheVariants.{Outgoing, Incoming}
-use Rattle.told.specs.declared.kinds.EndCause.TheVariants as end
-use Rattle.told.specs.declared.kinds.Word.{Word}
-use Rattle.told.specs.declared.kinds.Word.TheVariants.{Begun, Ended}
+use Rattle.words.specs.declared.kinds.Direction.TheVariants.{Outgoing, Incoming}
+use Rattle.words.specs.declared.kinds.EndCause.TheVariants as end
+use Rattle.words.specs.declared.kinds.Word.{Word}
+use Rattle.words.specs.declared.kinds.Word.TheVariants.{Begun, Ended}
 use Rattle.supervision.specs.Laws.{about}
 use Rattle.supervision.specs.Lending.{Lent}
 use Rattle.supervision.specs.Moves.{Move, table_of, words_of}
@@ -88,7 +88,7 @@ pub data Lives (ours : Bool) (cic : Cic) (c : Circuit) : Event → List Word →
   -- the far exchange was heard
   progresses : c.call ≡ Calling → Lives ours cic c on.progress [] Talking
   -- we release, or answer an RLC that nothing waits for by a release
-  releases : Connected c.call → (cause : Cause) → Lives ours cic c (on.released cause) [] Releasing
+  releases : Connected c.call → (cause : CauseOctets) → Lives ours cic c (on.released cause) [] Releasing
   is_unexpected : Connected c.call → c.reset ≢ reset.Single → Lives ours cic c on.rlc [] Releasing
   -- a call ends, by its cause
   is_released : Connected c.call → Lives ours cic c on.rel (Ended end.ReleaseReceived cic ∷ []) Idle
@@ -100,11 +100,11 @@ pub data Lives (ours : Bool) (cic : Cic) (c : Circuit) : Event → List Word →
   goes_on : (e : Event) → Untouched ours c e → Lives ours cic c e [] c.call
 
 -- the cause that is kept changes only by our release, ordered or in answer to an unexpected RLC, to what is sent
-pub data Keeps (c : Circuit) : Event → Cause → Type 0 where
-  of_release : (cause : Cause) → Keeps c (on.released cause) cause
-  of_unexpected : Connected c.call → c.reset ≢ reset.Single → Keeps c on.rlc (record { location = 0x87; value = 0x9f })
+pub data Keeps (c : Circuit) : Event → CauseOctets → Type 0 where
+  of_release : (cause : CauseOctets) → Keeps c (on.released cause) cause
+  of_unexpected : Connected c.call → c.reset ≢ reset.Single → Keeps c on.rlc (record { location_octet = 0x87; value_octet = 0x9f })
   of_rlc : (Connected c.call → c.reset ≡ reset.Single) → Keeps c on.rlc c.cause
-  of_others : (e : Event) → e ≢ on.rlc → ((cause : Cause) → e ≢ on.released cause) → Keeps c e c.cause
+  of_others : (e : Event) → e ≢ on.rlc → ((cause : CauseOctets) → e ≢ on.released cause) → Keeps c e c.cause
 
 -- every accepted operation, at every circuit
 abbrev pub CallsLive : Type 0

@@ -9,10 +9,10 @@ use Rattle.message.specs.declared.kinds.BlockType.TheVariants.{Maintenance, Hard
 use Rattle.message.specs.declared.kinds.CallKind.TheVariants.{Iam, Acm, Con, Anm, Cpg}
 use Rattle.message.specs.declared.kinds.Grouped.TheVariants.{Cgb, Cgu, Cgba, Cgua}
 use Rattle.message.specs.declared.kinds.Single.TheVariants.{Rsc, Blo, Ubl, Bla, Uba}
-use Rattle.circuit.specs.declared.record.Cause.{Cause}
-use Rattle.told.specs.Words.{timer_of}
-use Rattle.told.specs.declared.kinds.Timer.{Timer}
-use Rattle.told.specs.declared.kinds.Timer.TheVariants.{T1, T5, T12, T13, T14, T15, T16, T17, T18, T19, T20, T21, T22, T23}
+use Rattle.circuit.specs.declared.record.CauseOctets.{CauseOctets}
+use Rattle.words.specs.Words.{timer_of}
+use Rattle.words.specs.declared.kinds.Timer.{Timer}
+use Rattle.words.specs.declared.kinds.Timer.TheVariants.{T1, T5, T12, T13, T14, T15, T16, T17, T18, T19, T20, T21, T22, T23}
 use Rattle.refusal.specs.declared.reasons.Refusal.{Refusal}
 use Rattle.supervision.specs.Answering.{Order, answer}
 use Rattle.supervision.specs.Answering as of
@@ -21,6 +21,7 @@ use Rattle.supervision.specs.Lending.{Lent}
 use Rattle.supervision.specs.Moves.{Move}
 use Rattle.supervision.specs.Receiving.{receiving}
 use Rattle.supervision.specs.declared.trunk.Config.{Config}
+use Rattle.supervision.specs.declared.limits.TheConstants.{SLOTS}
 
 -- an operation of an open trunk
 pub data Operation : Type 0 where
@@ -39,7 +40,7 @@ answered t room (expire timer at kind) lent = expiring t room timer at kind lent
 pub data Event : Type 0 where
   -- orders of our side
   seized : Event
-  released : Cause → Event
+  released : CauseOctets → Event
   blocked unblocked : BlockType → Event
   circuit_reset system_reset : Event
   -- messages; progress is ACM, CON, ANM or CPG
@@ -70,22 +71,22 @@ names c r status cic = nat_le c cic && is_named r status (cic - c)
 
 -- the time slots of a PCM system whose mask bit is set, by their place
 abbrev pub in_mask : ℕ → ℕ → ℕ → Bool
-in_mask system mask k = k / 32 == system && mask / 2 ^ (k % 32) % 2 == 1
+in_mask system mask k = k / SLOTS == system && mask / 2 ^ (k % SLOTS) % 2 == 1
 
 -- all its time slots but 0
 abbrev pub in_system : ℕ → ℕ → Bool
-in_system system k = k / 32 == system && not (k % 32 == 0)
+in_system system k = k / SLOTS == system && not (k % SLOTS == 0)
 
 -- a GRA counts only from time slot 1 with range 30
 abbrev pub counts : ℕ → ℕ → ℕ → Bool
-counts first c r = (c - first) % 32 == 1 && r == 30
+counts first c r = (c - first) % SLOTS == 1 && r == 30
 
 -- an order, to the circuit at the place k; `first` is the first CIC of the trunk
 abbrev pub ordered : ℕ → Order → ℕ → Event
 ordered first (of.seize body None) k = nothing
 ordered first (of.seize body (Some place)) k = when (place.0 == k) seized
 ordered first (of.release cic location value) k =
-    when (cic.0 == first + k) (released (record { location = 0x80 + location; value = 0x80 + value }))
+    when (cic.0 == first + k) (released (record { location_octet = 0x80 + location; value_octet = 0x80 + value }))
 ordered first (of.block cic) k = when (cic.0 == first + k) (blocked Maintenance)
 ordered first (of.unblock cic) k = when (cic.0 == first + k) (unblocked Maintenance)
 ordered first (of.reset cic) k = when (cic.0 == first + k) circuit_reset

@@ -4,9 +4,9 @@ use Rattle.message.specs.Decode.{decode}
 use Rattle.message.specs.Encode.{encode, plain, refusal_of}
 use Rattle.message.specs.Msg.{Msg}
 use Rattle.circuit.specs.declared.record.Circuit.{Circuit}
-use Rattle.told.specs.Words.{number_of}
-use Rattle.told.specs.declared.kinds.Word.{Word}
-use Rattle.told.specs.declared.kinds.Word.TheVariants.{Send, Begun, Ended, Alert}
+use Rattle.words.specs.Words.{number_of}
+use Rattle.words.specs.declared.kinds.Word.{Word}
+use Rattle.words.specs.declared.kinds.Word.TheVariants.{Send, Begun, Ended, Alert}
 use Rattle.supervision.specs.Cutting.{cut, Gapless}
 use Rattle.supervision.specs.Moves.{Move, words_of, octets_of}
 use Rattle.supervision.specs.declared.trunk.Config.{Config}

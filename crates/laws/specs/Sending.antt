@@ -1,6 +1,6 @@
 -- What is sent: for each order, in answer to each message, and at each expiry.
 use Rattle.std.specs.Prelude.{◌≡◌, ◌≢◌, ℕ, ◌+◌, ◌-◌, ◌*◌, ◌/◌, ◌<◌, true, List, [], ◌∷◌, ◌++◌, Some, None, Ok, Option}
-use Rattle.status.specs.declared.circuit.Cic.{Cic}
+use Rattle.status.specs.declared.cic.Cic.{Cic}
 use Rattle.message.specs.Decode.{decode}
 use Rattle.message.specs.Msg.{Msg, single, release_complete, group_reset, group_reset_ack, grouped, release, call}
 use Rattle.message.specs.declared.kinds.BlockType.{BlockType}
@@ -15,9 +15,9 @@ use Rattle.circuit.specs.declared.record.Circuit.{Circuit}
 use Rattle.circuit.specs.declared.record.LocalBlock.{LocalBlock}
 use Rattle.circuit.specs.declared.record.LocalBlock.TheVariants as local
 use Rattle.circuit.specs.declared.record.Reset.TheVariants as reset
-use Rattle.told.specs.Words.{timer_of}
-use Rattle.told.specs.declared.kinds.Timer.{Timer}
-use Rattle.told.specs.declared.kinds.Timer.TheVariants.{T1, T5, T12, T13, T14, T15, T16, T17, T18, T19, T20, T21, T22, T23}
+use Rattle.words.specs.Words.{timer_of}
+use Rattle.words.specs.declared.kinds.Timer.{Timer}
+use Rattle.words.specs.declared.kinds.Timer.TheVariants.{T1, T5, T12, T13, T14, T15, T16, T17, T18, T19, T20, T21, T22, T23}
 use Rattle.supervision.specs.Answering.{Order, answer}
 use Rattle.supervision.specs.Answering as of
 use Rattle.supervision.specs.Expiring.{expiring}
@@ -30,6 +30,7 @@ use Rattle.laws.specs.Blocks.{of_type, Standing}
 use Rattle.laws.specs.Calls.{Connected}
 use Rattle.laws.specs.Events.{in_mask, names, type_told, within}
 use Rattle.laws.specs.Naming.{Tells, Names, Concerned, EachNames}
+use Rattle.supervision.specs.declared.limits.TheConstants.{SLOTS}
 
 -- the circuit of a CIC
 abbrev pub at_cic : Config → List Circuit → ℕ → Circuit
@@ -37,7 +38,7 @@ at_cic t T c = placed T (c - t.first.0)
 
 -- the CIC of time slot 1 of a PCM system
 abbrev pub slot_1 : Config → ℕ → ℕ
-slot_1 t system = t.first.0 + system * 32 + 1
+slot_1 t system = t.first.0 + system * SLOTS + 1
 
 -- one message where P holds, else none
 abbrev pub OneIf : Type 0 → Msg → List Msg → Type 0
@@ -75,7 +76,7 @@ Unexpected c = Connected c.call × (c.reset ≢ reset.Single)
 abbrev pub ResetAnswer : Config → List Circuit → ℕ → List Msg → Type 0
 ResetAnswer t T c sent =
     (one group : List Msg) × OneIf (Standing (at_cic t T c).local.maintenance) (single c Blo) one
-    × GroupIf t Cgb Hardware (λ k x. (t.first.0 + k ≡ c) × Standing x.local.hardware) T ((c - t.first.0) / 32) group
+    × GroupIf t Cgb Hardware (λ k x. (t.first.0 + k ≡ c) × Standing x.local.hardware) T ((c - t.first.0) / SLOTS) group
     × (sent ≡ one ++ (group ++ release_complete c ∷ []))
 
 -- GRS: hardware blocks that stand are asked again, and then GRA shows the maintenance blocks that stand
@@ -125,7 +126,7 @@ abbrev pub GroupWaits : List Circuit → ℕ → Type 0
 GroupWaits T system = Concerned (λ k x. (x.equipped ≡ true) × (x.reset ≡ reset.Group)) T system
 
 abbrev pub last_release : ℕ → Circuit → Msg
-last_release c x = release c (x.cause.location ∷ x.cause.value ∷ [])
+last_release c x = release c (x.cause.location_octet ∷ x.cause.value_octet ∷ [])
 
 abbrev pub Expires : Config → List Circuit → Timer → ℕ → ℕ → Move → Type 0
 Expires t T T1 c kind m = Repeats ((at_cic t T c).call ≡ Releasing) (last_release c (at_cic t T c)) None m

@@ -1,5 +1,5 @@
 -- What reading and writing keep.
-use Rattle.std.proofs.Common.{◌≡◌, ℕ, ◌<◌, Bool, true, false, cond, ltb, leb, List, length, get_or, take, drop, Some, None, Ok, Err, Option, Result, sym, refl, ap, ◌∙◌, subst, arith, take_at}
+use Rattle.std.proofs.Common.{◌↔◌, ◌≡◌, ℕ, ◌<◌, Bool, true, false, cond, ltb, leb, List, length, get_or, take, drop, Some, None, Ok, Err, Option, Result, sym, refl, ap, ◌∙◌, subst, arith, take_at}
 use Rattle.std.proofs.lemmas.Bool.Decides.{nat_tests}
 use Rattle.status.proofs.Cleared.{cleared_spare}
 use Rattle.message.proofs.Formats.{view, caused, follows_from, limits_kept, one_message}
@@ -7,7 +7,7 @@ use Rattle.message.proofs.RoundTrip.{Indicated, may_write, reads_back, reread, w
 use Rattle.message.specs.Decode.{decode, within}
 use Rattle.message.specs.Encode.{encode, sized, refusal_of, written, unless_refused, leaves}
 use Rattle.message.specs.Format.{Follows, Represents}
-use Rattle.message.specs.Laws.{Exactly, Because, Reads, SpareStatus, Writes}
+use Rattle.message.specs.Laws.{Because, Reads, SpareStatus, Writes}
 use Rattle.message.specs.Meaning.{meaning}
 use Rattle.message.specs.declared.content.Message.{Message}
 use Rattle.message.specs.declared.content.Message.TheVariants as m
@@ -62,7 +62,7 @@ spare_status (call c k x) z w = tt
 
 -- with room, writing refuses what reading would
 same_refusal : (m : Msg) (f : MessageFault) → (o : Option MessageFault) → decode (encode m) ≡ reread m o →
-    Exactly (unless_refused (encode m) o ≡ Err f) (decode (encode m) ≡ Err f)
+    ((unless_refused (encode m) o ≡ Err f) ↔ (decode (encode m) ≡ Err f))
 same_refusal m f None e =
     ((λ p. let z : ◌≡◌ {A = ℕ} 0 1 = cc in absurd (omega arith)), λ q. let z : ◌≡◌ {A = ℕ} 0 1 = cc in absurd (omega arith))
 same_refusal m f (Some g) e = ((λ p. cc), λ q. cc)

@@ -2,6 +2,7 @@
 use Rattle.std.specs.Prelude.{ℕ, ◌%◌, Bool, true, cond, ◌&&◌, ◌||◌, List, length, take, drop, Some, None, Ok, Err, Option, Result, ◌==◌, nat_le, nat_lt, slice_index}
 use Rattle.status.specs.Circuits.{cic_of}
 use Rattle.status.specs.Parameter as group
+use Rattle.status.specs.declared.range.TheConstants.{MAX_RESET_RANGE, MAX_BLOCKING_RANGE}
 use Rattle.message.specs.Msg.{Msg, single, release_complete, group_reset, group_reset_ack, grouped, release, call}
 use Rattle.message.specs.declared.kinds.Kind.{Kind}
 use Rattle.message.specs.Types.{kind_of}
@@ -61,9 +62,9 @@ laid_out_as (kind.Call k) c xs = as_call c k xs
 abbrev pub within : Msg → Bool
 within (single c k) = true
 within (release_complete c) = true
-within (group_reset c r) = nat_le 1 r && nat_le r 31
-within (group_reset_ack c r s) = group.within 31 r s
-within (grouped c k i r s) = nat_le i 1 && group.within 255 r s
+within (group_reset c r) = nat_le 1 r && nat_le r MAX_RESET_RANGE
+within (group_reset_ack c r s) = group.within MAX_RESET_RANGE r s
+within (grouped c k i r s) = nat_le i 1 && group.within MAX_BLOCKING_RANGE r s
 within (release c x) = true
 within (call c k x) = true
 

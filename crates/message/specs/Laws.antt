@@ -1,5 +1,5 @@
 -- What reading and writing keep, in the words of the format.
-use Rattle.std.specs.Prelude.{◌≡◌, ℕ, ◌<◌, ◌≤◌, List, length, take, drop, None, Ok, Err, Result, slice_index}
+use Rattle.std.specs.Prelude.{◌↔◌, ◌≡◌, ℕ, ◌<◌, ◌≤◌, List, length, take, drop, None, Ok, Err, Result, slice_index}
 use Rattle.status.specs.Bits.{bit_at}
 use Rattle.message.specs.Decode.{decode}
 use Rattle.message.specs.Encode.{encode, plain, refusal_of, type_in}
@@ -9,10 +9,6 @@ use Rattle.message.specs.declared.kinds.Kind.{Kind}
 use Rattle.message.specs.Types.{type_of}
 use Rattle.message.specs.declared.fault.MessageFault.{MessageFault}
 use Rattle.message.specs.declared.fault.MessageFault.TheVariants.{NoRoom, Short, Unknown, Layout, Limit}
-
--- P holds exactly when Q does
-abbrev pub Exactly : Type 0 → Type 0 → Type 0
-Exactly P Q = (P → Q) × (Q → P)
 
 -- octet 3 is the type t
 abbrev pub Typed : List ℕ → ℕ → Type 0
@@ -33,7 +29,7 @@ Because xs (Err (Limit t)) = (m : Msg) × (type_in m ≡ t) × LaidOut xs m × (
 -- r is what the octets xs are read as
 pub record Reads (xs : List ℕ) (r : Result Msg MessageFault) : Type 0 where
   -- what represents a message, and nothing else, is read as that message; and each refusal means what it says
-  pub because : (o : Result Msg MessageFault) → Exactly (r ≡ o) (Because xs o)
+  pub because : (o : Result Msg MessageFault) → ((r ≡ o) ↔ (Because xs o))
   -- no octets represent two messages
   pub single : (m n : Msg) → Represents xs m → Represents xs n → m ≡ n
   -- what is read may be written, and is then read as the same message
@@ -57,6 +53,6 @@ pub record Writes (m : Msg) (before : List ℕ) (r : Result ℕ MessageFault) (a
   -- what is written is read as the same message, its spare bits 0
   pub back : (n : ℕ) → r ≡ Ok n → (decode (take n after) ≡ Ok (plain m)) × SpareZero m (take n after)
   -- with room, what reading would refuse is refused, and nothing else
-  pub refuses : cic_in m ≤ 4095 → length (encode m) ≤ length before → (f : MessageFault) → Exactly (r ≡ Err f) (decode (encode m) ≡ Err f)
+  pub refuses : cic_in m ≤ 4095 → length (encode m) ≤ length before → (f : MessageFault) → ((r ≡ Err f) ↔ (decode (encode m) ≡ Err f))
   -- no other message is written alike
   pub alike : (n : ℕ) → r ≡ Ok n → (o : Msg) → refusal_of o ≡ None → encode o ≡ take n after → plain o ≡ plain m

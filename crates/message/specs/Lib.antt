@@ -1,3 +1,4 @@
+pub mod Causes
 pub mod Decode
 pub mod Encode
 pub mod Faults

@@ -17,7 +17,7 @@ meaning (m.ReleaseComplete c) = release_complete c.0
 meaning (m.GroupReset c r) = group_reset c.0 r.0
 meaning (m.GroupResetAck c g) = group_reset_ack c.0 g.range.0 g.status.now
 meaning (m.Grouped c k b g) = grouped c.0 k (indicator_of b) g.range.0 g.status.now
-meaning (m.Release c x) = release c.0 x.now
+meaning (m.Release c x) = release c.0 x.0.now
 meaning (m.Call c k x) = call c.0 k x.now
 
 abbrev pub seen : Result Message MessageFault → Result Msg MessageFault

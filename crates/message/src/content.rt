@@ -4,30 +4,33 @@ ghost use Rattle.message.specs.Encode.{type_in};
 ghost use Rattle.message.specs.Meaning.{meaning};
 ghost use Rattle.message.specs.Msg.{cic_in, kind_in};
 
+use crate::cause::Cause;
 use crate::kinds::{BlockType, CallKind, Grouped, Kind, Single};
 use status::{Cic, Group, Range};
 
-// A message: each case has the CIC, and holds parts of the octets.
+/// A message: each case has the CIC, of a group that of its first circuit, and holds parts of the octets received. One
+/// that was read keeps all limits; one that a host made may not, and is then refused when it is written.
 #[derive(Clone, Copy)]
 pub enum Message<'a> {
-    // RSC, BLO, UBL, BLA, UBA
+    /// RSC, BLO, UBL, BLA, UBA
     Single(Cic, Single),
-    // RLC
+    /// RLC
     ReleaseComplete(Cic),
-    // GRS
+    /// GRS, whose range is from 1 to 31
     GroupReset(Cic, Range),
-    // GRA
+    /// GRA: a set bit is a circuit that the far end has blocked for maintenance
     GroupResetAck(Cic, Group<'a>),
-    // CGB, CGU, CGBA, CGUA
+    /// CGB, CGU, CGBA, CGUA
     Grouped(Cic, Grouped, BlockType, Group<'a>),
-    // REL, with its two cause octets
-    Release(Cic, &'a [u8]),
-    // IAM, ACM, CON, ANM, CPG, with the body
+    /// REL
+    Release(Cic, Cause<'a>),
+    /// IAM, ACM, CON, ANM, CPG, with the body, of one octet or more
     Call(Cic, CallKind, &'a [u8]),
 }
 
 impl Message<'_> {
-    // The circuit that the message is of, the first one of a group.
+    /// The circuit that the message is of, the first one of a group.
+    #[inline(always)]
     pub fn cic(self) -> Cic
         ensures { result.0 ≡ cic_in (meaning self.entry) }
     {
@@ -42,6 +45,8 @@ impl Message<'_> {
         }
     }
 
+    /// What the message is, without its parts.
+    #[inline(always)]
     pub fn kind(self) -> Kind
         ensures { result ≡ kind_in (meaning self.entry) }
     {
@@ -56,6 +61,8 @@ impl Message<'_> {
         }
     }
 
+    /// The type octet that the message is written with.
+    #[inline(always)]
     pub fn type_octet(self) -> u8
         ensures { result ≡ type_in (meaning self.entry) }
     {

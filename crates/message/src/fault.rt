@@ -2,28 +2,33 @@
 ghost use Rattle.std.specs.Prelude.{◌≡◌};
 ghost use Rattle.message.specs.Faults.{raised, number_of, type_of_fault};
 
+use crate::brief::{Brief, Heading};
 use status::ParamFault;
 use std::error::Error;
 use std::fmt;
 
-// Layout, limit and unknown type carry the type octet as it was received, and it comes up so to the operations. One that is
-// not listed has no kind either.
+/// Why octets are no message, or why a message was not written. `Display` says it in words, `brief` in one line of
+/// numbers. Nothing was written then.
+// The type octet is carried as it was received, and comes up so to the operations. One that is not listed has no kind.
 #[derive(Clone, Copy, PartialEq, Eq, Debug)]
 pub enum MessageFault {
-    // The output is shorter than the message.
+    /// Writing: the output is shorter than the message. A longer one may be lent, and the message written again.
     NoRoom,
-    // Fewer than three octets.
+    /// Reading: fewer than three octets, so that there is no type.
     Short,
-    // The type is none of the listed ones.
+    /// Reading: the type is none of the listed ones.
     Unknown(u8),
-    // Pointers, length or end differ from the layout of the type and the range.
+    /// Pointers, length or end differ from the layout of the type and the range; in writing, body, cause or status has
+    /// not the size that it has there.
     Layout(u8),
-    // The indicator, the range, the number of set bits or the CIC is outside its limits.
+    /// The indicator, the range or the number of set bits is outside its limits; in writing also the CIC.
     Limit(u8),
 }
 
 impl MessageFault {
-    // The number of the refusal. A method and no `From`, since a fault has its type octet too.
+    /// The number of the refusal, 3 to 7.
+    // A method and no `From`, since a fault has its type octet too.
+    #[inline(always)]
     pub fn number(self) -> u8
         ensures { result ≡ number_of self }
     {
@@ -36,7 +41,8 @@ impl MessageFault {
         }
     }
 
-    // The type octet of the message, where there is one.
+    /// The type octet of the message, where there is one.
+    #[inline(always)]
     pub fn type_octet(self) -> Option<u8>
         ensures { result ≡ type_of_fault self }
     {
@@ -47,15 +53,39 @@ impl MessageFault {
             | MessageFault::Limit(octet) => Some(octet),
         }
     }
+
+    /// The fault as one line of numbers, without words.
+    pub fn brief(self) -> Brief
+        ensures number { result.number ≡ number_of self }
+        ensures type_octet { result.type_octet ≡ type_of_fault self }
+    {
+        Brief {
+            number: self.number(),
+            type_octet: self.type_octet(),
+        }
+    }
+
+    /// All that the number may mean, in words.
+    pub fn meanings(self) -> &'static str {
+        match self {
+            MessageFault::NoRoom => "the output is shorter than the message",
+            MessageFault::Short => "the message has fewer than three octets",
+            MessageFault::Unknown(_) => "the type is not listed",
+            MessageFault::Layout(_) => {
+                "the pointers, the length or the end differ from the layout; \
+                 or, in writing, the body, the cause or the status has another size"
+            }
+            MessageFault::Limit(_) => {
+                "the indicator, the range or the number of set bits is outside its limits; \
+                 or, in writing, the CIC is past 4,095"
+            }
+        }
+    }
 }
 
 impl fmt::Display for MessageFault {
     fn fmt<W: fmt::Write>(&self, f: &mut fmt::Formatter<W>) -> fmt::Result {
-        let number = self.number();
-        match self.type_octet() {
-            Some(octet) => write!(f, "refused {number} type={octet:02X}"),
-            None => write!(f, "refused {number}"),
-        }
+        write!(f, "{}: {}", Heading(self.brief()), self.meanings())
     }
 }
 
@@ -64,6 +94,7 @@ impl Error for MessageFault {}
 impl From<ParamFault> for MessageFault {
     ghost from_gives = { λ p m. m ≡ raised p };
 
+    #[inline(always)]
     fn from(fault: ParamFault) -> MessageFault {
         match fault {
             ParamFault::Layout(octet) => MessageFault::Layout(octet),

@@ -1,28 +1,32 @@
-// The kinds of messages, by the abbreviations of the field, and their type octets.
+// The kinds of messages, by the abbreviations of the field, with their names and type octets.
 ghost use Rattle.std.specs.Prelude.{◌≡◌, ◌<◌, None, Some, MatchResult};
 ghost use Rattle.message.specs.Meaning.{indicator_of};
 ghost use Rattle.message.specs.Types.{kind_of, type_of};
 ghost use Rattle.message.specs.declared.fault.MessageFault.TheVariants.{Unknown};
 
 use crate::fault::MessageFault;
+use crate::types::*;
 use std::error::Error;
 use std::fmt;
 
-// Why circuits are blocked.
+/// Why circuits are blocked: the low two bits of an indicator.
 #[derive(Clone, Copy, PartialEq, Eq, Debug)]
 pub enum BlockType {
+    /// For maintenance: a call on the circuit goes on.
     Maintenance = 0,
+    /// For a hardware failure: a call on the circuit ends.
     Hardware = 1,
 }
 
-// An indicator that stands for no block type.
+/// An indicator that stands for no block type: it is not 0 and not 1.
 #[derive(Clone, Copy, PartialEq, Eq, Debug)]
 pub struct UnknownIndicator(pub u8);
 
-// The two bits of the indicator.
+// The indicator, without its spare bits.
 impl From<BlockType> for u8 {
     ghost from_gives = { λ why indicator. indicator ≡ indicator_of why };
 
+    #[inline(always)]
     fn from(why: BlockType) -> u8 {
         why as u8
     }
@@ -35,6 +39,7 @@ impl TryFrom<u8> for BlockType {
         MatchResult result (λ why. indicator_of why ≡ indicator)
         (λ unknown. (1 < indicator) × (unknown.0 ≡ indicator)) };
 
+    #[inline(always)]
     fn try_from(indicator: u8) -> Result<BlockType, UnknownIndicator> {
         match indicator {
             0 => Ok(BlockType::Maintenance),
@@ -55,61 +60,71 @@ impl fmt::Display for BlockType {
 
 impl fmt::Display for UnknownIndicator {
     fn fmt<W: fmt::Write>(&self, f: &mut fmt::Formatter<W>) -> fmt::Result {
-        write!(f, "no block type has the indicator {}", self.0)
+        write!(
+            f,
+            "the indicator {} is neither 0 (maintenance) nor 1 (hardware)",
+            self.0
+        )
     }
 }
 
 impl Error for UnknownIndicator {}
 
-// Messages of one circuit of which nothing follows the type.
+/// Messages of one circuit of which nothing follows the type.
 #[derive(Clone, Copy, PartialEq, Eq, Debug)]
 pub enum Single {
-    // reset circuit
+    /// reset circuit
     Rsc,
-    // blocking, unblocking and their acknowledgements
+    /// blocking
     Blo,
+    /// unblocking
     Ubl,
+    /// blocking acknowledgement
     Bla,
+    /// unblocking acknowledgement
     Uba,
 }
 
-// Blocking messages of a group of circuits.
+/// Blocking messages of a group of circuits.
 #[derive(Clone, Copy, PartialEq, Eq, Debug)]
 pub enum Grouped {
-    // circuit group blocking, unblocking and their acknowledgements
+    /// circuit group blocking
     Cgb,
+    /// circuit group unblocking
     Cgu,
+    /// circuit group blocking acknowledgement
     Cgba,
+    /// circuit group unblocking acknowledgement
     Cgua,
 }
 
-// Messages of a call whose body is not looked at.
+/// Messages of a call whose body is not looked at.
 #[derive(Clone, Copy, PartialEq, Eq, Debug)]
 pub enum CallKind {
-    // initial address
+    /// initial address
     Iam,
-    // address complete
+    /// address complete
     Acm,
-    // connect
+    /// connect
     Con,
-    // answer
+    /// answer
     Anm,
-    // call progress
+    /// call progress
     Cpg,
 }
 
-// What a type octet says a message is.
+/// What a type octet says a message is. `Display` gives the abbreviation, `name` the full name.
 #[derive(Clone, Copy, PartialEq, Eq, Debug)]
 pub enum Kind {
     Single(Single),
-    // RLC
+    /// RLC, release complete
     ReleaseComplete,
-    // GRS
+    /// GRS, circuit group reset
     GroupReset,
-    // GRA
+    /// GRA, circuit group reset acknowledgement
     GroupResetAck,
     Grouped(Grouped),
-    // REL
+    /// REL, release
     Release,
     Call(CallKind),
 }
@@ -118,26 +133,27 @@ pub enum Kind {
 impl From<Kind> for u8 {
     ghost from_gives = { λ kind octet. octet ≡ type_of kind };
 
+    #[inline(always)]
     fn from(kind: Kind) -> u8 {
         match kind {
-            Kind::Call(CallKind::Iam) => 0x01,
-            Kind::Call(CallKind::Acm) => 0x06,
-            Kind::Call(CallKind::Con) => 0x07,
-            Kind::Call(CallKind::Anm) => 0x09,
-            Kind::Release => 0x0c,
-            Kind::ReleaseComplete => 0x10,
-            Kind::Single(Single::Rsc) => 0x12,
-            Kind::Single(Single::Blo) => 0x13,
-            Kind::Single(Single::Ubl) => 0x14,
-            Kind::Single(Single::Bla) => 0x15,
-            Kind::Single(Single::Uba) => 0x16,
-            Kind::GroupReset => 0x17,
-            Kind::Grouped(Grouped::Cgb) => 0x18,
-            Kind::Grouped(Grouped::Cgu) => 0x19,
-            Kind::Grouped(Grouped::Cgba) => 0x1a,
-            Kind::Grouped(Grouped::Cgua) => 0x1b,
-            Kind::GroupResetAck => 0x29,
-            Kind::Call(CallKind::Cpg) => 0x2c,
+            Kind::Call(CallKind::Iam) => IAM,
+            Kind::Call(CallKind::Acm) => ACM,
+            Kind::Call(CallKind::Con) => CON,
+            Kind::Call(CallKind::Anm) => ANM,
+            Kind::Release => REL,
+            Kind::ReleaseComplete => RLC,
+            Kind::Single(Single::Rsc) => RSC,
+            Kind::Single(Single::Blo) => BLO,
+            Kind::Single(Single::Ubl) => UBL,
+            Kind::Single(Single::Bla) => BLA,
+            Kind::Single(Single::Uba) => UBA,
+            Kind::GroupReset => GRS,
+            Kind::Grouped(Grouped::Cgb) => CGB,
+            Kind::Grouped(Grouped::Cgu) => CGU,
+            Kind::Grouped(Grouped::Cgba) => CGBA,
+            Kind::Grouped(Grouped::Cgua) => CGUA,
+            Kind::GroupResetAck => GRA,
+            Kind::Call(CallKind::Cpg) => CPG,
         }
     }
 }
@@ -148,53 +164,65 @@ impl TryFrom<u8> for Kind {
     ghost try_from_gives = { λ octet result. MatchResult result (λ kind. kind_of octet ≡ Some kind)
         (λ fault. (kind_of octet ≡ None) × (fault ≡ Unknown octet)) };
 
+    #[inline(always)]
     fn try_from(octet: u8) -> Result<Kind, MessageFault> {
         match octet {
-            0x01 => Ok(Kind::Call(CallKind::Iam)),
-            0x06 => Ok(Kind::Call(CallKind::Acm)),
-            0x07 => Ok(Kind::Call(CallKind::Con)),
-            0x09 => Ok(Kind::Call(CallKind::Anm)),
-            0x0c => Ok(Kind::Release),
-            0x10 => Ok(Kind::ReleaseComplete),
-            0x12 => Ok(Kind::Single(Single::Rsc)),
-            0x13 => Ok(Kind::Single(Single::Blo)),
-            0x14 => Ok(Kind::Single(Single::Ubl)),
-            0x15 => Ok(Kind::Single(Single::Bla)),
-            0x16 => Ok(Kind::Single(Single::Uba)),
-            0x17 => Ok(Kind::GroupReset),
-            0x18 => Ok(Kind::Grouped(Grouped::Cgb)),
-            0x19 => Ok(Kind::Grouped(Grouped::Cgu)),
-            0x1a => Ok(Kind::Grouped(Grouped::Cgba)),
-            0x1b => Ok(Kind::Grouped(Grouped::Cgua)),
-            0x29 => Ok(Kind::GroupResetAck),
-            0x2c => Ok(Kind::Call(CallKind::Cpg)),
+            IAM => Ok(Kind::Call(CallKind::Iam)),
+            ACM => Ok(Kind::Call(CallKind::Acm)),
+            CON => Ok(Kind::Call(CallKind::Con)),
+            ANM => Ok(Kind::Call(CallKind::Anm)),
+            REL => Ok(Kind::Release),
+            RLC => Ok(Kind::ReleaseComplete),
+            RSC => Ok(Kind::Single(Single::Rsc)),
+            BLO => Ok(Kind::Single(Single::Blo)),
+            UBL => Ok(Kind::Single(Single::Ubl)),
+            BLA => Ok(Kind::Single(Single::Bla)),
+            UBA => Ok(Kind::Single(Single::Uba)),
+            GRS => Ok(Kind::GroupReset),
+            CGB => Ok(Kind::Grouped(Grouped::Cgb)),
+            CGU => Ok(Kind::Grouped(Grouped::Cgu)),
+            CGBA => Ok(Kind::Grouped(Grouped::Cgba)),
+            CGUA => Ok(Kind::Grouped(Grouped::Cgua)),
+            GRA => Ok(Kind::GroupResetAck),
+            CPG => Ok(Kind::Call(CallKind::Cpg)),
             _ => Err(MessageFault::Unknown(octet)),
         }
     }
 }
 
-// The abbreviation.
+impl Kind {
+    // The abbreviation and the full name.
+    fn names(self) -> (&'static str, &'static str) {
+        match self {
+            Kind::Single(Single::Rsc) => ("RSC", "reset circuit"),
+            Kind::Single(Single::Blo) => ("BLO", "blocking"),
+            Kind::Single(Single::Ubl) => ("UBL", "unblocking"),
+            Kind::Single(Single::Bla) => ("BLA", "blocking acknowledgement"),
+            Kind::Single(Single::Uba) => ("UBA", "unblocking acknowledgement"),
+            Kind::ReleaseComplete => ("RLC", "release complete"),
+            Kind::GroupReset => ("GRS", "circuit group reset"),
+            Kind::GroupResetAck => ("GRA", "circuit group reset acknowledgement"),
+            Kind::Grouped(Grouped::Cgb) => ("CGB", "circuit group blocking"),
+            Kind::Grouped(Grouped::Cgu) => ("CGU", "circuit group unblocking"),
+            Kind::Grouped(Grouped::Cgba) => ("CGBA", "circuit group blocking acknowledgement"),
+            Kind::Grouped(Grouped::Cgua) => ("CGUA", "circuit group unblocking acknowledgement"),
+            Kind::Release => ("REL", "release"),
+            Kind::Call(CallKind::Iam) => ("IAM", "initial address"),
+            Kind::Call(CallKind::Acm) => ("ACM", "address complete"),
+            Kind::Call(CallKind::Con) => ("CON", "connect"),
+            Kind::Call(CallKind::Anm) => ("ANM", "answer"),
+            Kind::Call(CallKind::Cpg) => ("CPG", "call progress"),
+        }
+    }
+
+    /// The full name, as `circuit group blocking`.
+    pub fn name(self) -> &'static str {
+        self.names().1
+    }
+}
+
 impl fmt::Display for Kind {
     fn fmt<W: fmt::Write>(&self, f: &mut fmt::Formatter<W>) -> fmt::Result {
-        f.write_str(match self {
-            Kind::Single(Single::Rsc) => "RSC",
-            Kind::Single(Single::Blo) => "BLO",
-            Kind::Single(Single::Ubl) => "UBL",
-            Kind::Single(Single::Bla) => "BLA",
-            Kind::Single(Single::Uba) => "UBA",
-            Kind::ReleaseComplete => "RLC",
-            Kind::GroupReset => "GRS",
-            Kind::GroupResetAck => "GRA",
-            Kind::Grouped(Grouped::Cgb) => "CGB",
-            Kind::Grouped(Grouped::Cgu) => "CGU",
-            Kind::Grouped(Grouped::Cgba) => "CGBA",
-            Kind::Grouped(Grouped::Cgua) => "CGUA",
-            Kind::Release => "REL",
-            Kind::Call(CallKind::Iam) => "IAM",
-            Kind::Call(CallKind::Acm) => "ACM",
-            Kind::Call(CallKind::Con) => "CON",
-            Kind::Call(CallKind::Anm) => "ANM",
-            Kind::Call(CallKind::Cpg) => "CPG",
-        })
+        f.write_str(self.names().0)
     }
 }

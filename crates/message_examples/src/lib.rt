@@ -1,10 +1,14 @@
-// Worked examples of written messages, run as tests.
+// Worked examples of written messages, and of what faults and refusals say, run as tests.
 #![tactic(auto)]
 
 #[cfg(test)]
 mod tests {
-    use message::{BlockType, CallKind, Grouped, Message, MessageFault, Single, write};
+    use message::{
+        BlockType, CallKind, Cause, Grouped, Kind, Message, MessageFault, Single, write,
+    };
+    use refusal::Refusal;
     use status::{Cic, Group, Range};
+    use std::alloc::AllocError;
     use std::process::Abort;
     use std::test::Fail;
 
@@ -35,7 +39,7 @@ mod tests {
         );
         leaves(
             &rt,
-            Message::Release(Cic(6), &[0x84, 0x90]),
+            Message::Release(Cic(6), Cause(&[0x84, 0x90])),
             [6, 0, 0x0c, 2, 0, 2, 0x84, 0x90, f, f, f, f, f, f],
         );
         leaves(
@@ -99,7 +103,7 @@ mod tests {
         )?;
         refused(
             &rt,
-            Message::Release(Cic(6), &[0x84, 0x90, 0]),
+            Message::Release(Cic(6), Cause(&[0x84, 0x90, 0])),
             MessageFault::Layout(0x0c),
         )?;
         refused(
@@ -145,5 +149,60 @@ mod tests {
             Message::Grouped(Cic(4096), Grouped::Cgb, BlockType::Hardware, long),
             MessageFault::NoRoom,
         )
+    }
+
+    #[test]
+    fn words(rt: HostRuntime) -> Result<(), AllocError> {
+        let heap = rt.alloc();
+        let layout = MessageFault::Layout(0x18);
+        assert_eq!(rt;
+            layout.brief().to_string(heap)?.as_str(),
+            "refused 6 type=18"
+        );
+        assert_eq!(rt;
+            layout.to_string(heap)?.as_str(),
+            "refused 6, CGB (circuit group blocking, type 18): \
+             the pointers, the length or the end differ from the layout; \
+             or, in writing, the body, the cause or the status has another size"
+        );
+        let unknown = MessageFault::Unknown(0x2a);
+        assert_eq!(rt;
+            unknown.to_string(heap)?.as_str(),
+            "refused 5, type 2A: the type is not listed"
+        );
+        let state = Refusal::State;
+        assert_eq!(rt; state.brief().to_string(heap)?.as_str(), "refused 10");
+        assert_eq!(rt;
+            state.to_string(heap)?.as_str(),
+            "refused 10: releasing finds no calling or talking call; \
+             blocking or unblocking names a circuit with a waiting reset; \
+             or a circuit reset finds a group reset"
+        );
+        let limit = Refusal::Limit(0x29);
+        assert_eq!(rt;
+            limit.brief().to_string(heap)?.as_str(),
+            "refused 7 type=29"
+        );
+        Ok(())
+    }
+
+    // The location and the value of a cause that was read, and of one that is too short.
+    #[test]
+    fn causes(rt: HostRuntime) {
+        let two = Cause(&[0x84, 0x90]);
+        assert_eq!(rt; two.location(), Some(4));
+        assert_eq!(rt; two.value(), Some(16));
+        let one = Cause(&[0x8a]);
+        assert_eq!(rt; one.location(), Some(10));
+        assert_eq!(rt; one.value(), None);
+    }
+
+    #[test]
+    fn names(rt: HostRuntime) -> Result<(), AllocError> {
+        let kind = Kind::Grouped(Grouped::Cgua);
+        assert_eq!(rt; kind.to_string(rt.alloc())?.as_str(), "CGUA");
+        assert_eq!(rt; kind.name(), "circuit group unblocking acknowledgement");
+        assert_eq!(rt; Kind::Call(CallKind::Iam).name(), "initial address");
+        Ok(())
     }
 }

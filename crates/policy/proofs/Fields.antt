@@ -1,7 +1,10 @@
 -- One field of one link is written.
-use Rattle.std.specs.Prelude.{◌≡◌, ℕ, zero, suc, List, [], ◌∷◌, map, take, slice_index_or, slice_set, refl}
+use Rattle.std.specs.Prelude.{◌≡◌, ℕ, ◌<◌, false, zero, suc, List, [], ◌∷◌, map, take, slice_index_or, slice_set, refl}
 use Rattle.std.proofs.Common.{ap, ◌∙◌}
+use Rattle.std.proofs.lemmas.List.{get_or-take}
 use Rattle.policy.specs.Fields.{blank}
+use Rattle.policy.specs.Orders.{marks}
+use Rattle.policy.specs.declared.interface.TheConstants.{MOST_PLACES}
 use Rattle.policy.specs.declared.links.Link.{Link}
 
 pub field_at : {X : Type 0} (f : Link → X) (ls : List Link) (i : ℕ) (d : Link) → slice_index_or (map f ls) i (f d) ≡ f (slice_index_or ls i d)
@@ -28,10 +31,6 @@ take-set (suc n) [] i x = refl
 take-set (suc n) (y ∷ xs) zero x = refl
 take-set (suc n) (y ∷ xs) (suc i) x = ap (λ t. y ∷ t) (take-set n xs i x)
 
--- a field that the new link changes
-pub field_written : {X : Type 0} (f : Link → X) (ls ls' : List Link) (i : ℕ) (l : Link) → ls' ≡ slice_set ls i l → map f ls' ≡ slice_set (map f ls) i (f l)
-field_written f ls ls' i l e = ap (λ (ks : List Link). map f ks) e ∙ field_set f ls i l
-
--- a field that it has from the old one
-pub field_unwritten : {X : Type 0} (f : Link → X) (ls ls' : List Link) (i : ℕ) (l : Link) → ls' ≡ slice_set ls i l → f l ≡ f (slice_index_or ls i blank) → map f ls' ≡ map f ls
-field_unwritten f ls ls' i l e k = ap (λ (ks : List Link). map f ks) e ∙ field_kept f ls i l blank k
+-- the mark of a place
+pub mark_at : (ls : List Link) (i : ℕ) → i < MOST_PLACES → slice_index_or (marks ls) i false ≡ (slice_index_or ls i blank).linked
+mark_at ls i h = get_or-take MOST_PLACES _ i false h ∙ field_at (λ (l : Link). l.linked) ls i blank

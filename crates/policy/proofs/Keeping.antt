@@ -10,7 +10,7 @@ use Rattle.policy.specs.Fields.{field_length, marks-length}
 use Rattle.std.specs.Option.{unwrap_or}
 use Rattle.policy.proofs.Runs.{last_in}
 use Rattle.policy.proofs.Members.{in_head, in_tail, in_kept, kept_in, without_absent}
-use Rattle.policy.proofs.Ordering.{Marked, Lines, small, lines_push, lines_without}
+use Rattle.policy.proofs.Ordering.{Marked, Lines, small, lines_push, lines_without, lines_small, ends_small}
 use Rattle.policy.specs.Orders.{has, Run, Ordered, InOrder, newers, olders, marks, end_for, offered, withdrawn, controlled, uncontrolled, preferred, first_of, last_of}
 use Rattle.policy.specs.Sets.{Chosen}
 use Rattle.policy.specs.declared.interface.Place.{Place}
@@ -22,6 +22,34 @@ to_lines e ls zs l (m, o, a, b) = ((marks-length ls l, m, o), a, b)
 from_lines : (e : Bool) (ls : List Link) (ms : List Bool) (ns os zs : List ℕ) → marks ls ≡ ms → newers ls ≡ ns → olders ls ≡ os →
     Lines e ms ns os zs → Ordered e ls zs
 from_lines e ls ms ns os zs p q r ((l, m, o), a, b) = rw (p, q, r) (m, o, a, b)
+
+-- a place that is in leads to links, and so does an end
+newers_length : (ls : List Link) → length ls ≡ 514 → length (newers ls) ≡ 514
+newers_length ls l = field_length (λ (k : Link). k.newer) ls ∙ l
+
+olders_length : (ls : List Link) → length ls ≡ 514 → length (olders ls) ≡ 514
+olders_length ls l = field_length (λ (k : Link). k.older) ls ∙ l
+
+member_leads : (e : Bool) (ls : List Link) (p : ℕ) → length ls ≡ 514 → slice_index_or (marks ls) p false ≡ true →
+    (zs : List ℕ) → Ordered e ls zs → (slice_index (olders ls) p < 514) × (slice_index (newers ls) p < 514)
+member_leads e ls p l t zs o = lines_small e (marks ls) _ _ zs p (newers_length ls l) (olders_length ls l) (sym (o.0 p) ∙ t) (to_lines e ls zs l o)
+
+below : (x : ℕ) → x < 514 → ltb x 514 ≡ true
+below x h = grind (arith, nat_tests)
+
+is_below : (x : ℕ) → ltb x 514 ≡ true → x < 514
+is_below x h = grind (arith, nat_tests)
+
+pub older_leads : (e : Bool) (ls : List Link) (p : ℕ) → length ls ≡ 514 → slice_index_or (marks ls) p false ≡ true → InOrder e ls → slice_index (olders ls) p < 514
+older_leads e ls p l t k = is_below _ (∥∥₁_elim k (Coded-set coded_bool _ _) (λ z. below _ (member_leads e ls p l t z.0 z.1).0))
+
+pub newer_leads : (e : Bool) (ls : List Link) (p : ℕ) → length ls ≡ 514 → slice_index_or (marks ls) p false ≡ true → InOrder e ls → slice_index (newers ls) p < 514
+newer_leads e ls p l t k = is_below _ (∥∥₁_elim k (Coded-set coded_bool _ _) (λ z. below _ (member_leads e ls p l t z.0 z.1).1))
+
+pub end_leads : (e : Bool) (ls : List Link) (p : ℕ) → length ls ≡ 514 → InOrder e ls → slice_index (olders ls) (end_for e p) < 514
+end_leads e ls p l k =
+    is_below _ (∥∥₁_elim k (Coded-set coded_bool _ _)
+    (λ z. below _ (ends_small e (marks ls) _ _ z.0 p (newers_length ls l) (olders_length ls l) (to_lines e ls z.0 l z.1))))
 
 -- a mark that is written as it was
 pub same_mark : (bs : List Bool) (k : ℕ) (b : Bool) → slice_index_or bs k false ≡ b → bs ≡ slice_set bs k b
@@ -48,6 +76,13 @@ pub end_first : (e : Bool) (p end x y : ℕ) (ns : List ℕ) → p < 512 → end
 end_first e p end x y ns h q =
     let past : 512 ≤ end = rw q (end_past (controlled e p)) in
     set_comm ns p end x y (λ r. omega arith)
+
+-- offered again, a member keeps its turn
+pub offer_member : (e : Bool) (ls : List Link) (p : ℕ) → slice_index_or (marks ls) p false ≡ true → (zs : List ℕ) → Ordered e ls zs → Ordered e ls (offered p zs)
+offer_member e ls p t zs o =
+    let h : has zs p ≡ true = sym (o.0 p) ∙ t in
+    let w : offered p zs ≡ zs = grind (arith, nat_tests) in
+    rw w o
 
 pub offer_past : (e : Bool) (ls : List Link) (p : ℕ) → 512 ≤ p → (zs : List ℕ) → Ordered e ls zs → Ordered e ls (offered p zs)
 offer_past e ls p h zs o = let w : offered p zs ≡ zs = grind (arith, nat_tests) in rw w o

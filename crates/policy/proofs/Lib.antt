@@ -3,4 +3,4 @@ pub mod Keeping
 pub mod Members
 pub mod Ordering
 pub mod Runs
-pub mod Words
+pub mod Updates

@@ -103,6 +103,13 @@ module _ (ms : List Bool) (ns os : List ℕ) (zs : List ℕ) (S E : ℕ) (f g : 
         | inr q ↦ rw q (in_head S (filter g zs))
       ])
 
+  -- so they have links
+  own_small : (p : ℕ) → has zs p ≡ true → g p ≡ true → Run ns os S (filter g zs) S → (slice_index os p < 514) × (slice_index ns p < 514)
+  own_small p i y r = (line_small _ (older_on p _ i y refl r), line_small _ (newer_on p _ i y refl r))
+
+  newest_small : Run ns os S (filter g zs) S → slice_index os S < 514
+  newest_small r = line_small _ (last_in ns os S (filter g zs) S r)
+
   -- p is withdrawn: its own line and the other
   own_without : (p o w : ℕ) → has zs p ≡ true → g p ≡ true → slice_index os p ≡ o → slice_index ns p ≡ w → Run ns os S (filter g zs) S →
       Run (slice_set ns o w) (slice_set os w o) S (filter g (withdrawn p zs)) S
@@ -175,6 +182,24 @@ lines_without e ms ns os zs p o w ln lo i eo ew (m, a, b) = go (controlled e p) 
           other_without ms ns os zs 513 512 (controlled e) (uncontrolled e) m ln lo (omega arith) (omega arith) (omega arith) (omega arith) (un_not e) p o w i z eo ew b a,
           own_without ms ns os zs 513 512 (controlled e) (uncontrolled e) m ln lo (omega arith) (omega arith) (omega arith) (omega arith) (un_not e) p o w i z eo ew b,
         )
+
+-- what a place that is in leads to, and an end
+pub lines_small : (e : Bool) (ms : List Bool) (ns os zs : List ℕ) (p : ℕ) → length ns ≡ 514 → length os ≡ 514 → has zs p ≡ true →
+    Lines e ms ns os zs → (slice_index os p < 514) × (slice_index ns p < 514)
+lines_small e ms ns os zs p ln lo i (m, a, b) = go (controlled e p) refl
+  where
+    go : (c : Bool) → controlled e p ≡ c → (slice_index os p < 514) × (slice_index ns p < 514)
+    go true y = own_small ms ns os zs 512 513 (uncontrolled e) (controlled e) m ln lo (omega arith) (omega arith) (omega arith) (omega arith) (not_un e) p i y a
+    go false y =
+        let z : uncontrolled e p ≡ true = rw y in
+        own_small ms ns os zs 513 512 (controlled e) (uncontrolled e) m ln lo (omega arith) (omega arith) (omega arith) (omega arith) (un_not e) p i z b
+
+pub ends_small : (e : Bool) (ms : List Bool) (ns os zs : List ℕ) (p : ℕ) → length ns ≡ 514 → length os ≡ 514 → Lines e ms ns os zs → slice_index os (end_for e p) < 514
+ends_small e ms ns os zs p ln lo (m, a, b) = go (controlled e p)
+  where
+    go : (c : Bool) → slice_index os (cond c 512 513) < 514
+    go true = newest_small ms ns os zs 512 513 (uncontrolled e) (controlled e) m ln lo (omega arith) (omega arith) (omega arith) (omega arith) (not_un e) a
+    go false = newest_small ms ns os zs 513 512 (controlled e) (uncontrolled e) m ln lo (omega arith) (omega arith) (omega arith) (omega arith) (un_not e) b
 
 -- nothing is marked at first
 pub none_marked : (k : ℕ) → slice_index_or (replicate 512 false) k false ≡ false

@@ -3,7 +3,9 @@ use Rattle.std.specs.Prelude.{◌≡◌, suc, false, List, [], ◌∷◌, map, l
 use Rattle.std.proofs.Common.{ap, arith}
 use Rattle.std.proofs.lemmas.List.{length-take-le}
 use Rattle.policy.specs.Orders.{marks}
+use Rattle.policy.specs.declared.interface.TheConstants.{MOST_PLACES}
 use Rattle.policy.specs.declared.links.Link.{Link}
+use Rattle.policy.specs.declared.links.TheConstants.{LINKS}
 
 abbrev pub blank : Link
 blank = record { linked = false; older = 0; newer = 0 }
@@ -12,5 +14,5 @@ pub field_length : {X : Type 0} (f : Link → X) (ls : List Link) → length (ma
 field_length f [] = refl
 field_length f (l ∷ ls) = ap suc (field_length f ls)
 
-pub marks-length : (ls : List Link) → length ls ≡ 514 → length (marks ls) ≡ 512
-marks-length ls l = let n = field_length (λ (k : Link). k.linked) ls in length-take-le 512 _ (omega arith)
+pub marks-length : (ls : List Link) → length ls ≡ LINKS → length (marks ls) ≡ MOST_PLACES
+marks-length ls l = let n = field_length (λ (k : Link). k.linked) ls in length-take-le MOST_PLACES _ (omega arith)

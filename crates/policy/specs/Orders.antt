@@ -1,7 +1,9 @@
 -- The order of offers, and the links that keep it.
 use Rattle.std.specs.Prelude.{◌≡◌, ℕ, ◌%◌, Bool, false, cond, not, ◌||◌, List, [], ◌∷◌, ◌++◌, map, take, Some, None, filter, Option, ◌==◌, nat_le, slice_index, slice_index_or}
 use Rattle.policy.specs.declared.interface.Place.{Place}
+use Rattle.policy.specs.declared.interface.TheConstants.{MOST_PLACES}
 use Rattle.policy.specs.declared.links.Link.{Link}
+use Rattle.policy.specs.declared.links.TheConstants.{CONTROLLED, UNCONTROLLED}
 
 -- whether the place k is in a list
 abbrev pub has : List ℕ → ℕ → Bool
@@ -15,7 +17,7 @@ Once (x ∷ xs) = (has xs x ≡ false) × Once xs
 
 -- offered again, a member keeps its turn; past the last place nothing changes
 abbrev pub offered : ℕ → List ℕ → List ℕ
-offered p zs = cond (nat_le 512 p || has zs p) zs (zs ++ p ∷ [])
+offered p zs = cond (nat_le MOST_PLACES p || has zs p) zs (zs ++ p ∷ [])
 
 abbrev pub withdrawn : ℕ → List ℕ → List ℕ
 withdrawn p zs = filter (λ k. not (k == p)) zs
@@ -29,7 +31,7 @@ uncontrolled even k = not (controlled even k)
 
 -- the end of the line that a place is on
 abbrev pub end_for : Bool → ℕ → ℕ
-end_for even p = cond (controlled even p) 512 513
+end_for even p = cond (controlled even p) CONTROLLED UNCONTROLLED
 
 abbrev pub first_of : List ℕ → Option Place → Option Place
 first_of [] o = o
@@ -52,7 +54,7 @@ abbrev pub olders : List Link → List ℕ
 olders ls = map (λ (l : Link). l.older) ls
 
 abbrev pub marks : List Link → List Bool
-marks ls = take 512 (map (λ (l : Link). l.linked) ls)
+marks ls = take MOST_PLACES (map (λ (l : Link). l.linked) ls)
 
 -- from a by way of xs to b, each next to the one before in both directions
 abbrev pub Run : List ℕ → List ℕ → ℕ → List ℕ → ℕ → Type 0
@@ -65,8 +67,8 @@ abbrev pub Ordered : Bool → List Link → List ℕ → Type 0
 Ordered even ls zs =
     ((k : ℕ) → slice_index_or (marks ls) k false ≡ has zs k)
     × Once zs
-    × Run (newers ls) (olders ls) 512 (filter (controlled even) zs) 512
-    × Run (newers ls) (olders ls) 513 (filter (uncontrolled even) zs) 513
+    × Run (newers ls) (olders ls) CONTROLLED (filter (controlled even) zs) CONTROLLED
+    × Run (newers ls) (olders ls) UNCONTROLLED (filter (uncontrolled even) zs) UNCONTROLLED
 
 -- there is such an order
 abbrev pub InOrder : Bool → List Link → Type 0

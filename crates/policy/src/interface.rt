@@ -1,10 +1,13 @@
 // What every policy is: a set of places, and one of them to take next.
 ghost use Rattle.std.specs.Prelude.{◌≡◌, ℕ, ◌<◌, Bool, true, false, List, length, slice_index_or, slice_set, Option as Maybe};
-ghost use Rattle.policy.specs.Sets.{Chosen, Follows, after, last_word};
+ghost use Rattle.policy.specs.Sets.{Chosen, Follows, after, last_update};
 
 use std::fmt;
 
-// A place in the table of circuit records. It is no CIC.
+/// The most places that a policy of this crate takes: the circuits of 16 PCM systems of 32 time slots.
+pub const MOST_PLACES: usize = 512;
+
+/// A place in the table of circuit records, counted from 0. It is no CIC.
 #[derive(Clone, Copy, PartialEq, Eq, Debug)]
 pub struct Place(pub usize);
 
@@ -14,35 +17,37 @@ impl fmt::Display for Place {
     }
 }
 
-// A set of places below a number of its own.
+/// A set of places below a number of its own, and one of them to take next. A host lends one to each operation on a
+/// trunk, which tells it what opens and what closes and asks it when it seizes. A host may write its own: it may promise
+/// no more than its set.
 pub trait Policy {
     ghost use Rattle.policy.specs.declared.interface.Place.{Place};
-    ghost use Rattle.policy.specs.declared.interface.Word.{Word};
+    ghost use Rattle.policy.specs.declared.interface.Update.{Update};
 
-    // The most places that it takes.
+    /// How many places it takes: those from 0 up to this number, which is not among them.
     const PLACES: usize;
 
     ghost PLACES: { ℕ };
 
-    // The set: a mark for each place below that number.
+    // the set: a mark for each place below that number
     ghost held: { Self → List Bool };
 
-    // What a word makes of the policy, and what naming a place does: each policy says it for itself, beside the set.
-    ghost obeys: { Word → Self → Self → Type 0 };
+    // what an update makes of the policy, and what naming a place does: each policy says it for itself, beside the set
+    ghost obeys: { Update → Self → Self → Type 0 };
 
     ghost picks: { Maybe Place → Self → Self → Type 0 };
 
-    // Adds a place. One past the last changes nothing.
+    /// Adds a place. One that is a member stays one, and one past the last changes nothing.
     fn offer(&mut self, place: Place)
         ensures set { held self.new ≡ slice_set (held self.old) place.0 true }
-        ensures obeys { obeys (Word.Offer place) self.old self.new };
+        ensures obeys { obeys (Update.Offer place) self.old self.new };
 
-    // Removes a place.
+    /// Removes a place. One that is no member changes nothing.
     fn withdraw(&mut self, place: Place)
         ensures set { held self.new ≡ slice_set (held self.old) place.0 false }
-        ensures obeys { obeys (Word.Withdraw place) self.old self.new };
+        ensures obeys { obeys (Update.Withdraw place) self.old self.new };
 
-    // Names some member, or none if there is none. The set stays.
+    /// Names some member, or none if there is none. The set stays: who takes the place withdraws it.
     fn choose(&mut self) -> Option<Place>
         ensures same { held self.new ≡ held self.old }
         ensures member { Chosen (held self.old) result }
@@ -51,25 +56,27 @@ pub trait Policy {
     ghost sized: { (x : Self) → length (held x) ≡ PLACES };
 }
 
-// A word to a policy.
+/// What a policy is told.
 #[derive(Clone, Copy)]
-pub enum Word {
+pub enum Update {
+    /// the place may be taken
     Offer(Place),
+    /// the place may not be taken
     Withdraw(Place),
 }
 
-// Tells a policy each word in turn. Of each place the last word decides.
-pub fn follow<P: Policy>(policy: &mut P, words: &[Word])
-    ensures all { P.Policy.held policy.new ≡ after words.now (P.Policy.held policy.old) }
-    ensures obeys { Follows P.Policy.obeys words.now policy.old policy.new }
+/// Tells a policy each update in turn, for a host that replays. Of each place the last update decides.
+pub fn follow<P: Policy>(policy: &mut P, updates: &[Update])
+    ensures all { P.Policy.held policy.new ≡ after updates.now (P.Policy.held policy.old) }
+    ensures obeys { Follows P.Policy.obeys updates.now policy.old policy.new }
     ensures last { (k : ℕ) → k < P.Policy.PLACES
         → slice_index_or (P.Policy.held policy.new) k false
-        ≡ last_word words.now k (slice_index_or (P.Policy.held policy.old) k false) }
+        ≡ last_update updates.now k (slice_index_or (P.Policy.held policy.old) k false) }
 {
-    for word in words {
-        match *word {
-            Word::Offer(place) => policy.offer(place),
-            Word::Withdraw(place) => policy.withdraw(place),
+    for update in updates {
+        match *update {
+            Update::Offer(place) => policy.offer(place),
+            Update::Withdraw(place) => policy.withdraw(place),
         }
     }
 }

@@ -2,11 +2,10 @@
 #![tactic(auto)]
 
 mod interface;
-mod linking;
 mod links;
 mod one_end;
 mod release;
 
-pub use interface::{Place, Policy, Word, follow};
+pub use interface::{MOST_PLACES, Place, Policy, Update, follow};
 pub use one_end::{End, Sequential};
 pub use release::ReleaseOrder;

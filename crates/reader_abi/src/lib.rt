@@ -12,6 +12,7 @@ use message::{Message, MessageFault, read};
 const WORDS: usize = 8;
 
 // The indicator, the range and the octets that a message does not take apart.
+#[inline(always)]
 fn fields(message: Message<'_>) -> (u8, u8, &[u8])
     ensures why { result.0 ≡ indicator_in (meaning message.entry) }
     ensures span { result.1 ≡ range_in (meaning message.entry) }
@@ -23,12 +24,13 @@ fn fields(message: Message<'_>) -> (u8, u8, &[u8])
         Message::GroupReset(_, range) => (0, range.0, &[]),
         Message::GroupResetAck(_, group) => (0, group.range.0, group.status),
         Message::Grouped(_, _, why, group) => (u8::from(why), group.range.0, group.status),
-        Message::Release(_, cause) => (0, 0, cause),
+        Message::Release(_, cause) => (0, 0, cause.0),
         Message::Call(_, _, body) => (0, 0, body),
     }
 }
 
 // The type octet of a refusal, 0 where it has none.
+#[inline(always)]
 fn type_refused(fault: MessageFault) -> u8
     ensures { result ≡ type_refused fault }
 {
@@ -36,6 +38,7 @@ fn type_refused(fault: MessageFault) -> u8
 }
 
 // The first octet and the last, 0 where there is none.
+#[inline(always)]
 fn ends(part: &[u8]) -> (u8, u8)
     ensures first { result.0 ≡ slice_index part.now 0 }
     ensures last { result.1 ≡ slice_index part.now (length part.now - 1) }
@@ -46,6 +49,7 @@ fn ends(part: &[u8]) -> (u8, u8)
 }
 
 // The words of an accepted message.
+#[inline(always)]
 fn accepted_row(message: Message<'_>) -> [u64; WORDS]
     ensures { result ≡ accepted (meaning message.entry) }
 {
@@ -66,6 +70,7 @@ fn accepted_row(message: Message<'_>) -> [u64; WORDS]
 }
 
 // The words of a refusal.
+#[inline(always)]
 fn refused_row(fault: MessageFault) -> [u64; WORDS]
     ensures { result ≡ refused fault }
 {
@@ -81,23 +86,25 @@ fn refused_row(fault: MessageFault) -> [u64; WORDS]
     ]
 }
 
-// Reads the octets, and writes what they say to the front of `out`. Answers 0, the number of the
-// refusal, or 3 where `out` is too short.
+/// Reads the octets, and writes what they say to the front of `out`, eight words: the number of the refusal or 0, the
+/// type octet, the CIC, the indicator, the range, and of status, cause or body the length, the first octet and the last.
+/// Answers the number of the refusal, 0 where there is none, or 3 with `out` untouched where it is shorter than eight
+/// words.
 #[unsafe(no_mangle)]
 pub extern "C" fn setsvoku_read(octets: &[u8], out: &mut [u64]) -> u32
     ensures value { result ≡ answer (decode octets.now) (length out.old) }
     ensures after { out.new ≡ reported (decode octets.now) out.old }
 {
-    if out.len() < WORDS {
+    let Some(front) = out.first_chunk_mut::<WORDS>() else {
         return MessageFault::NoRoom.number() as u32;
-    }
+    };
     match read(octets) {
         Ok(message) => {
-            out[0..WORDS].copy_from_slice(&accepted_row(message));
+            *front = accepted_row(message);
             0
         }
         Err(fault) => {
-            out[0..WORDS].copy_from_slice(&refused_row(fault));
+            *front = refused_row(fault);
             fault.number() as u32
         }
     }

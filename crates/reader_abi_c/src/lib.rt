@@ -6,8 +6,10 @@ ghost use Rattle.std.specs.Prelude.{◌≡◌, length};
 ghost use Rattle.message.specs.Decode.{decode};
 ghost use Rattle.reader_abi.specs.Report.{answer, reported};
 
-// Reads the octets, and writes what they say to the front of `out`. Answers 0, the number of the
-// refusal, or 3 where `out` is too short.
+/// Reads the octets, and writes what they say to the front of `out`, eight words: the number of the refusal or 0, the
+/// type octet, the CIC, the indicator, the range, and of status, cause or body the length, the first octet and the last.
+/// Answers the number of the refusal, 0 where there is none, or 3 with `out` untouched where it is shorter than eight
+/// words.
 #[unsafe(no_mangle)]
 pub extern "C" fn setsvoku_read(octets: &[u8], out: &mut [u64]) -> u32
     ensures value { result ≡ answer (decode octets.now) (length out.old) }

@@ -1,7 +1,7 @@
 // Plays offers and withdrawals through the policies, and shows what each would choose.
 #![tactic(auto)]
 
-use policy::{End, Place, Policy, ReleaseOrder, Sequential, Word, follow};
+use policy::{End, Place, Policy, ReleaseOrder, Sequential, Update, follow};
 use std::fmt;
 
 // A choice, as the number of a place or `-`.
@@ -17,7 +17,7 @@ impl fmt::Display for Choice {
     }
 }
 
-// The policies that are told the same words. They are of two types, so they stand in no array.
+// The policies that are told the same updates. They are of two types, so they stand in no array.
 #[derive(Clone, Copy)]
 struct Policies {
     low: Sequential,
@@ -27,19 +27,19 @@ struct Policies {
 }
 
 impl Policies {
-    fn tell(&mut self, word: Word) {
-        follow(&mut self.low, &[word]);
-        follow(&mut self.high, &[word]);
-        follow(&mut self.even, &[word]);
-        follow(&mut self.odd, &[word]);
+    fn tell(&mut self, update: Update) {
+        follow(&mut self.low, &[update]);
+        follow(&mut self.high, &[update]);
+        follow(&mut self.even, &[update]);
+        follow(&mut self.odd, &[update]);
     }
 }
 
 fn play(rt: &HostRuntime, policies: &mut Policies, line: &str) -> anyhow::Result<()> {
     if let Some(number) = line.strip_prefix("offer ") {
-        policies.tell(Word::Offer(Place(number.parse::<usize>()?)));
+        policies.tell(Update::Offer(Place(number.parse::<usize>()?)));
     } else if let Some(number) = line.strip_prefix("withdraw ") {
-        policies.tell(Word::Withdraw(Place(number.parse::<usize>()?)));
+        policies.tell(Update::Withdraw(Place(number.parse::<usize>()?)));
     } else if line == "choose" {
         let low = Choice(policies.low.choose());
         let high = Choice(policies.high.choose());

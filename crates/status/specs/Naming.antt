@@ -2,7 +2,7 @@
 use Rattle.std.specs.Prelude.{◌≡◌, ℕ, zero, suc, ◌+◌, ◌-◌, cond, List, [], ◌∷◌, Some, None, Option, ◌==◌}
 use Rattle.status.specs.Bits.{bit_at}
 use Rattle.status.specs.Circuits.{circuit_at}
-use Rattle.status.specs.declared.circuit.Cic.{Cic}
+use Rattle.status.specs.declared.cic.Cic.{Cic}
 use Rattle.status.specs.declared.naming.Named.{Named}
 
 -- of n circuits, the first of them k places after m, those whose bits are set, rising

@@ -4,14 +4,15 @@ use Rattle.status.specs.Bits.{octets_for, set_bits}
 use Rattle.status.specs.declared.fault.ParamFault.{ParamFault}
 use Rattle.status.specs.declared.fault.ParamFault.TheVariants.{Layout, Limit}
 use Rattle.status.specs.declared.group.Group.{Group}
+use Rattle.status.specs.declared.group.TheConstants.{MAX_SET_BITS}
 
 -- the length octet counts the range and its status, and nothing follows them
 abbrev pub laid_out : List ℕ → Bool
 laid_out xs = nat_le 2 (length xs) && (slice_index xs 0 == 1 + octets_for (slice_index xs 1) && length xs == 2 + octets_for (slice_index xs 1))
 
--- a range is from 1 to most, and at most 32 of its bits are set
+-- a range is from 1 to most, and no more of its bits are set than may be
 abbrev pub within : ℕ → ℕ → List ℕ → Bool
-within most r s = nat_le 1 r && (nat_le r most && nat_le (set_bits s (r + 1)) 32)
+within most r s = nat_le 1 r && (nat_le r most && nat_le (set_bits s (r + 1)) MAX_SET_BITS)
 
 -- a range and its status in a message of type t
 abbrev pub read_group : ℕ → ℕ → List ℕ → Result (ℕ × List ℕ) ParamFault

@@ -1,16 +1,16 @@
 // Circuit identification codes, ranges of circuits and the status bits of a range.
 #![tactic(auto)]
 
-mod circuit;
+mod cic;
 mod fault;
 mod group;
 mod naming;
 mod parameter;
-mod span;
+mod range;
 
-pub use circuit::Cic;
+pub use cic::Cic;
 pub use fault::ParamFault;
-pub use group::Group;
+pub use group::{Group, MAX_SET_BITS};
 pub use naming::Named;
 pub use parameter::read_group;
-pub use span::Range;
+pub use range::{MAX_BLOCKING_RANGE, MAX_RESET_RANGE, Range};

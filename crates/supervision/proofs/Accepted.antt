@@ -2,7 +2,7 @@
 use Rattle.std.proofs.Common.{◌≡◌, ℕ, ◌-◌, ◌-◌, ◌<◌, ◌≤◌, Bool, true, false, cond, not, ◌&&◌, leb, List, length, Ok, sym, refl, ap, ◌∙◌, ⊎_elim, subst, arith}
 use Rattle.std.proofs.lemmas.List.{get_or_past}
 use Rattle.std.proofs.lemmas.Bool.{not-false, cases_lt, false≢true}
-use Rattle.status.specs.declared.circuit.Cic.{Cic}
+use Rattle.status.specs.declared.cic.Cic.{Cic}
 use Rattle.message.specs.Msg.{Msg, single}
 use Rattle.message.specs.declared.kinds.Single.TheVariants.{Rsc}
 use Rattle.circuit.specs.Circuits.{vacant, is_releasing}
@@ -10,7 +10,7 @@ use Rattle.circuit.specs.declared.record.Circuit.{Circuit}
 use Rattle.circuit.specs.declared.record.Reset.TheVariants as reset
 use Rattle.circuit.specs.declared.rules.Rule.TheVariants.{Reset}
 use Rattle.circuit.specs.declared.rules.Change.{Change}
-use Rattle.told.specs.declared.kinds.Timer.TheVariants.{T5}
+use Rattle.words.specs.declared.kinds.Timer.TheVariants.{T5}
 use Rattle.refusal.specs.declared.reasons.Refusal.TheVariants.{Address}
 use Rattle.refusal.specs.Refusals.{and_then}
 use Rattle.supervision.specs.declared.trunk.Config.{Config}

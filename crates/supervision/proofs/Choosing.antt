@@ -1,10 +1,9 @@
 -- What the policy's choice leads to.
-use Rattle.std.proofs.Common.{◌≡◌, ℕ, ◌+◌, ◌≤◌, Bool, true, eqb, List, length, is_ok, Some, None, Ok, Err, Option, Result, sym, refl, ◌∙◌, subst}
+use Rattle.std.proofs.Common.{◌↔◌, ◌≡◌, ℕ, ◌+◌, ◌≤◌, Bool, true, eqb, List, length, is_ok, Some, None, Ok, Err, Option, Result, sym, refl, ◌∙◌, subst}
 use Rattle.std.proofs.lemmas.Bool.{false≢true, eqb-true}
 use Rattle.policy.specs.Sets.{Chosen}
 use Rattle.policy.specs.declared.interface.Place.{Place}
-use Rattle.policy.specs.declared.interface.Word.{Word}
-use Rattle.message.specs.Laws.{Exactly}
+use Rattle.policy.specs.declared.interface.Update.{Update}
 use Rattle.message.specs.Msg.{call}
 use Rattle.message.specs.declared.kinds.CallKind.TheVariants.{Iam}
 use Rattle.circuit.proofs.Keeping.{order_keeps}
@@ -24,7 +23,7 @@ use Rattle.supervision.proofs.Turning.{tells_same}
 
 -- where the set is the open circuits, there is a place exactly if some circuit is open
 fair_choice : (T : List Circuit) (H : List Bool) (choice : Option Place) → Chosen H choice → SetIsOpen T H
-    → Exactly (is_ok (seizable choice T) ≡ true) ((k : ℕ) × (is_open (placed T k) ≡ true))
+    → ((is_ok (seizable choice T) ≡ true) ↔ ((k : ℕ) × (is_open (placed T k) ≡ true)))
 fair_choice T H None chosen set =
     ((λ e. absurd (false≢true e)), λ (k, e). absurd (false≢true (sym (chosen k) ∙ set k ∙ e)))
 fair_choice T H (Some p) chosen set =
@@ -32,7 +31,7 @@ fair_choice T H (Some p) chosen set =
     ((λ e. (p.0, open-there)), λ x. rw open-there refl)
 
 -- accepted: the call begins at the chosen place
-pub seizure_accepted : {P : Type 0} (picks : Option Place → P → P → Type 0) (obeys : Word → P → P → Type 0) (t : Config) (body : List ℕ) (choice : Option Place) (place : Place) (n : ℕ × ℕ) (before after : Lent) (old at new : P)
+pub seizure_accepted : {P : Type 0} (picks : Option Place → P → P → Type 0) (obeys : Update → P → P → Type 0) (t : Config) (body : List ℕ) (choice : Option Place) (place : Place) (n : ℕ × ℕ) (before after : Lent) (old at new : P)
     → Chosen before.held choice
     → picks choice old at
     → Tells obeys before.table after.table at new
@@ -49,11 +48,11 @@ seizure_accepted picks obeys t body choice place n before after old at new chose
       asked = (at, picked, told);
       outcome = outcome_of t (λ b. seizing t body choice b.table) m n before after l
           (λ k h e. order_keeps Seize (placed before.table k) (rw (eqb-true k place.0 h) o)) (rw (← v) refl) p;
-      fair = λ set. subst (λ (s : Result Place Refusal). Exactly (is_ok s ≡ true) ((k : ℕ) × (is_open (placed before.table k) ≡ true))) (sym v) (fair_choice before.table before.held choice chosen set);
+      fair = λ set. subst (λ (s : Result Place Refusal). ((is_ok s ≡ true) ↔ ((k : ℕ) × (is_open (placed before.table k) ≡ true)))) (sym v) (fair_choice before.table before.held choice chosen set);
     }
 
 -- refused: the policy was asked, and nothing else is done
-pub seizure_refused : {P : Type 0} (picks : Option Place → P → P → Type 0) (obeys : Word → P → P → Type 0) (t : Config) (body : List ℕ) (choice : Option Place) (e : Refusal) (r : Result (ℕ × ℕ) Refusal) (before : Lent) (old new : P)
+pub seizure_refused : {P : Type 0} (picks : Option Place → P → P → Type 0) (obeys : Update → P → P → Type 0) (t : Config) (body : List ℕ) (choice : Option Place) (e : Refusal) (r : Result (ℕ × ℕ) Refusal) (before : Lent) (old new : P)
     → Chosen before.held choice
     → picks choice old new
     → Err e ≡ seizable choice before.table
@@ -65,5 +64,5 @@ seizure_refused picks obeys t body choice e r before old new chosen picked v q =
       chosen = chosen;
       asked = (new, picked, tells_same obeys before.table new);
       outcome = outcome_refused t (λ b. seizing t body choice b.table) e r before (rw (← v) refl) q;
-      fair = λ set. rw q (subst (λ (s : Result Place Refusal). Exactly (is_ok s ≡ true) ((k : ℕ) × (is_open (placed before.table k) ≡ true))) (sym v) (fair_choice before.table before.held choice chosen set));
+      fair = λ set. rw q (subst (λ (s : Result Place Refusal). ((is_ok s ≡ true) ↔ ((k : ℕ) × (is_open (placed before.table k) ≡ true)))) (sym v) (fair_choice before.table before.held choice chosen set));
     }

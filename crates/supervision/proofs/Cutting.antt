@@ -2,19 +2,19 @@
 use Rattle.std.proofs.Common.{◌≡◌, ℕ, suc, ◌+◌, ◌/◌, ◌<◌, ◌≤◌, Bool, true, false, cond, List, [], ◌∷◌, ◌++◌, map, length, take, drop, Some, None, Option, sym, refl, ap, ◌∙◌, subst, append_assoc, length-append, take_at, drop_at, arith}
 use Rattle.std.specs.List.{flat_map}
 use Rattle.std.proofs.lemmas.Bool.{eq-eqb, ne_eqb}
-use Rattle.status.specs.declared.circuit.Cic.{Cic}
+use Rattle.status.specs.declared.cic.Cic.{Cic}
 use Rattle.message.specs.Encode.{encode}
 use Rattle.message.specs.Msg.{Msg}
 use Rattle.circuit.specs.Laws.{told_of, end_word, begin_word}
 use Rattle.circuit.specs.declared.record.Circuit.{Circuit}
 use Rattle.circuit.specs.declared.rules.Change.{Change}
-use Rattle.told.specs.Words.{number_of, cause_number, timer_number, incoming}
-use Rattle.told.specs.declared.kinds.Direction.{Direction}
-use Rattle.told.specs.declared.kinds.Direction.TheVariants.{Outgoing, Incoming}
-use Rattle.told.specs.declared.kinds.EndCause.{EndCause}
-use Rattle.told.specs.declared.kinds.Timer.{Timer}
-use Rattle.told.specs.declared.kinds.Word.{Word}
-use Rattle.told.specs.declared.kinds.Word.TheVariants.{Send, Begun, Ended, Alert}
+use Rattle.words.specs.Words.{number_of, cause_number, timer_number, incoming}
+use Rattle.words.specs.declared.kinds.Direction.{Direction}
+use Rattle.words.specs.declared.kinds.Direction.TheVariants.{Outgoing, Incoming}
+use Rattle.words.specs.declared.kinds.EndCause.{EndCause}
+use Rattle.words.specs.declared.kinds.Timer.{Timer}
+use Rattle.words.specs.declared.kinds.Word.{Word}
+use Rattle.words.specs.declared.kinds.Word.TheVariants.{Send, Begun, Ended, Alert}
 use Rattle.supervision.specs.Cutting.{is_send, place_told, length_told, cut, Gapless}
 use Rattle.supervision.specs.declared.trunk.Config.{Config}
 use Rattle.supervision.specs.Moves.{Move, told_from, sends_from, alert_word, step_of, words_of, octets_of}

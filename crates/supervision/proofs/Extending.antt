@@ -2,7 +2,7 @@
 use Rattle.std.proofs.Common.{◌≡◌, ℕ, ◌+◌, ◌<◌, ◌≤◌, Bool, true, false, cond, ltb, List, [], ◌∷◌, ◌++◌, map, length, take, drop, set, Some, None, Ok, Err, Result, sym, refl, ap, ◌∙◌, append_assoc, add-zero, zero-add, length-append, arith}
 use Rattle.std.proofs.lemmas.List.{append-nil, length-map, map_push, length_push, take-append-drop}
 use Rattle.std.specs.List.{flat_map}
-use Rattle.status.specs.declared.circuit.Cic.{Cic}
+use Rattle.status.specs.declared.cic.Cic.{Cic}
 use Rattle.message.proofs.RoundTrip.{written_back}
 use Rattle.message.specs.Encode.{encode, refusal_of, written}
 use Rattle.message.specs.Msg.{Msg}
@@ -10,10 +10,10 @@ use Rattle.message.specs.declared.fault.MessageFault.{MessageFault}
 use Rattle.message.specs.declared.fault.MessageFault.TheVariants.{NoRoom}
 use Rattle.circuit.specs.declared.record.Circuit.{Circuit}
 use Rattle.circuit.specs.declared.rules.Change.{Change}
-use Rattle.told.specs.Words.{number_of}
-use Rattle.told.specs.declared.kinds.Timer.{Timer}
-use Rattle.told.specs.declared.kinds.Word.{Word}
-use Rattle.told.specs.declared.kinds.Word.TheVariants.{Send, Alert}
+use Rattle.words.specs.Words.{number_of}
+use Rattle.words.specs.declared.kinds.Timer.{Timer}
+use Rattle.words.specs.declared.kinds.Word.{Word}
+use Rattle.words.specs.declared.kinds.Word.TheVariants.{Send, Alert}
 use Rattle.supervision.specs.declared.trunk.Config.{Config}
 use Rattle.supervision.specs.Expiring.{alerting}
 use Rattle.supervision.specs.Lending.{AreRead, Lent, Performed, lent, over, carried}

@@ -5,7 +5,7 @@ use Rattle.policy.specs.declared.interface.Place.{Place}
 use Rattle.circuit.specs.Circuits.{is_open, vacant}
 use Rattle.circuit.specs.Laws.{told_of}
 use Rattle.circuit.specs.Orders.{applied}
-use Rattle.told.specs.Words.{number_of}
+use Rattle.words.specs.Words.{number_of}
 use Rattle.circuit.specs.declared.record.Circuit.{Circuit}
 use Rattle.circuit.specs.declared.rules.Rule.{Rule}
 use Rattle.supervision.specs.declared.trunk.Config.{Config}

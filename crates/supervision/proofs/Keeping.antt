@@ -2,7 +2,7 @@
 use Rattle.std.proofs.Common.{◌≡◌, ℕ, zero, suc, ◌+◌, ◌<◌, ◌≤◌, Bool, true, false, cond, eqb, ◌≢◌, List, [], ◌∷◌, ◌++◌, length, get_or, Some, None, Ok, Err, Option, Result, sym, refl, ap, ◌∙◌, ⊎_elim, add-zero, zero-add, arith}
 use Rattle.std.proofs.lemmas.List.{append-nil, get_or_past}
 use Rattle.std.proofs.lemmas.Bool.{cases_lt, cases_Bool, ne_eqb, eq-eqb}
-use Rattle.status.specs.declared.circuit.Cic.{Cic}
+use Rattle.status.specs.declared.cic.Cic.{Cic}
 use Rattle.message.specs.Encode.{encode}
 use Rattle.message.specs.Msg.{Msg}
 use Rattle.circuit.specs.Changes.{quiet}
@@ -10,11 +10,11 @@ use Rattle.circuit.specs.Circuits.{vacant, is_open, is_sound}
 use Rattle.circuit.specs.Laws.{Keeps, told_of, end_word, begin_word}
 use Rattle.circuit.specs.declared.record.Circuit.{Circuit}
 use Rattle.circuit.specs.declared.rules.Change.{Change}
-use Rattle.told.specs.declared.kinds.Direction.{Direction}
-use Rattle.told.specs.declared.kinds.EndCause.{EndCause}
-use Rattle.told.specs.declared.kinds.Timer.{Timer}
-use Rattle.told.specs.declared.kinds.Word.{Word}
-use Rattle.told.specs.declared.kinds.Word.TheVariants.{Send, Begun, Ended, Alert}
+use Rattle.words.specs.declared.kinds.Direction.{Direction}
+use Rattle.words.specs.declared.kinds.EndCause.{EndCause}
+use Rattle.words.specs.declared.kinds.Timer.{Timer}
+use Rattle.words.specs.declared.kinds.Word.{Word}
+use Rattle.words.specs.declared.kinds.Word.TheVariants.{Send, Begun, Ended, Alert}
 use Rattle.refusal.specs.declared.reasons.Refusal.{Refusal}
 use Rattle.supervision.specs.declared.trunk.Config.{Config}
 use Rattle.supervision.specs.Laws.{SetIsOpen, about, Lawful, Outcome}

@@ -1,7 +1,7 @@
 -- Messages for a range: what is answered, what is due after their effect, and their whole outcome.
 use Rattle.std.proofs.Common.{◌≡◌, ℕ, ◌+◌, ◌-◌, ◌*◌, ◌<◌, ◌≤◌, Bool, true, false, cond, not, ◌&&◌, leb, ltb, List, [], ◌∷◌, length, Some, None, Ok, Err, Option, Result, refl, ap, ◌∙◌, subst, ⊎_elim, arith}
 use Rattle.std.proofs.lemmas.Bool.{cases_Bool, leb-true, le-leb, lt-ltb, and_parts}
-use Rattle.status.specs.declared.circuit.Cic.{Cic}
+use Rattle.status.specs.declared.cic.Cic.{Cic}
 use Rattle.policy.specs.declared.interface.Place.{Place}
 use Rattle.message.specs.Meaning.{indicator_of}
 use Rattle.message.specs.Msg.{Msg, call, grouped}

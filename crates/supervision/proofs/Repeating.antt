@@ -1,10 +1,10 @@
 -- What an expiry promises: nothing is done where nothing is waited for, else the message is sent once more.
 use Rattle.std.proofs.Common.{◌≡◌, ℕ, ◌≤◌, Bool, true, false, List, [], ◌∷◌, length, Some, Ok, Option, Result, refl}
-use Rattle.status.specs.declared.circuit.Cic.{Cic}
+use Rattle.status.specs.declared.cic.Cic.{Cic}
 use Rattle.message.specs.Msg.{Msg}
 use Rattle.circuit.specs.declared.record.Circuit.{Circuit}
-use Rattle.told.specs.Words.{timer_of}
-use Rattle.told.specs.declared.kinds.Timer.{Timer}
+use Rattle.words.specs.Words.{timer_of}
+use Rattle.words.specs.declared.kinds.Timer.{Timer}
 use Rattle.refusal.specs.declared.reasons.Refusal.{Refusal}
 use Rattle.supervision.specs.declared.trunk.Config.{Config}
 use Rattle.supervision.specs.Expiring.{expired, expiring, repeating, repeats_one}

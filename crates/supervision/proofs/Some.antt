@@ -1,5 +1,5 @@
 -- Some circuit, or none, is as a test says.
-use Rattle.std.proofs.Common.{◌≡◌, ℕ, zero, suc, ◌+◌, ◌<◌, Bool, true, false, List, [], ◌∷◌, length, get_or, refl, add-zero, arith}
+use Rattle.std.proofs.Common.{◌≡◌, ℕ, zero, suc, ◌+◌, ◌<◌, Bool, true, false, not, ◌&&◌, ◌||◌, List, [], ◌∷◌, length, get_or, refl, add-zero, arith}
 use Rattle.std.proofs.lemmas.Bool.{or_left, or_right, or_from, or_parts}
 use Rattle.circuit.specs.Circuits.{vacant}
 use Rattle.circuit.specs.declared.record.Circuit.{Circuit}
@@ -40,3 +40,21 @@ some p t j l e = some_from_lem p 0 t j l (open_zero p j (get_or t j vacant) true
 -- no place, as there is none
 pub none_at : (p : ℕ → Circuit → Bool) (t : List Circuit) (j : ℕ) → j < length t → some_from p 0 t ≡ false → p j (get_or t j vacant) ≡ false
 none_at p t j l e = let q : 0 + j ≡ j = omega arith in rw q at (none_at_from p 0 t j l e)
+
+both_tests : (a b d x y : Bool) → (a && not (b && d) || (x || y)) ≡ (((a && not b) || x) || ((a && not d) || y))
+both_tests false b d x y = refl
+both_tests true false d x y = refl
+both_tests true true true x y = refl
+both_tests true true false true y = refl
+both_tests true true false false y = refl
+
+fails_from : (n : ℕ → Bool) (p q : Circuit → Bool) (k : ℕ) (t : List Circuit)
+    → some_from (λ j c. n j && not (p c && q c)) k t ≡ (some_from (λ j c. n j && not (p c)) k t || some_from (λ j c. n j && not (q c)) k t)
+fails_from n p q k [] = refl
+fails_from n p q k (c ∷ cs) =
+    rw (fails_from n p q (suc k) cs) (both_tests (n k) (p c) (q c) (some_from (λ j x. n j && not (p x)) (suc k) cs) (some_from (λ j x. n j && not (q x)) (suc k) cs))
+
+-- some fails one of two tests at once, as it fails the one or the other
+pub fails_one : (n : ℕ → Bool) (p q : Circuit → Bool) (t : List Circuit)
+    → some_from (λ j c. n j && not (p c && q c)) 0 t ≡ (some_from (λ j c. n j && not (p c)) 0 t || some_from (λ j c. n j && not (q c)) 0 t)
+fails_one n p q t = fails_from n p q 0 t

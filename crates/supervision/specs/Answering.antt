@@ -1,6 +1,6 @@
 -- The orders of our side, and what the rules answer to each.
 use Rattle.std.specs.Prelude.{ℕ, Bool, List, Option, Result}
-use Rattle.status.specs.declared.circuit.Cic.{Cic}
+use Rattle.status.specs.declared.cic.Cic.{Cic}
 use Rattle.policy.specs.Sets.{Chosen}
 use Rattle.policy.specs.declared.interface.Place.{Place}
 use Rattle.refusal.specs.declared.reasons.Refusal.{Refusal}

@@ -1,10 +1,10 @@
 -- Circuits for which a message is due.
 use Rattle.std.specs.Prelude.{ℕ, ◌+◌, Bool, ◌&&◌, List, Some, None, Option, nat_le}
-use Rattle.status.specs.declared.circuit.Cic.{Cic}
+use Rattle.status.specs.declared.cic.Cic.{Cic}
 use Rattle.message.specs.declared.kinds.BlockType.{BlockType}
 use Rattle.message.specs.declared.kinds.Grouped.{Grouped}
 use Rattle.message.specs.declared.kinds.Grouped.TheVariants.{Cgb, Cgu, Cgba, Cgua}
-use Rattle.told.specs.declared.kinds.Timer.{Timer}
+use Rattle.words.specs.declared.kinds.Timer.{Timer}
 use Rattle.circuit.specs.Circuits.{block_of, is_asked, is_group, is_lifting, is_none, is_releasing, is_single, is_standing}
 use Rattle.circuit.specs.declared.record.Circuit.{Circuit}
 use Rattle.supervision.specs.declared.due.Condition.{Condition}

@@ -1,6 +1,6 @@
 -- What the rules answer to an expiry: a message still waited for is repeated.
 use Rattle.std.specs.Prelude.{ℕ, Bool, false, cond, not, ◌&&◌, List, [], ◌∷◌, Some, None, Ok, Err, Option, Result, ◌==◌, nat_le, nat_lt}
-use Rattle.status.specs.declared.circuit.Cic.{Cic}
+use Rattle.status.specs.declared.cic.Cic.{Cic}
 use Rattle.message.specs.Msg.{Msg, single}
 use Rattle.message.specs.declared.kinds.BlockType.{BlockType}
 use Rattle.message.specs.declared.kinds.BlockType.TheVariants.{Maintenance}
@@ -9,12 +9,12 @@ use Rattle.message.specs.declared.kinds.Grouped.TheVariants.{Cgb, Cgu}
 use Rattle.message.specs.declared.kinds.Single.TheVariants.{Rsc, Blo, Ubl}
 use Rattle.circuit.specs.Changes.{quiet}
 use Rattle.circuit.specs.Circuits.{block_of, is_asked, is_group, is_lifting, is_releasing, is_single}
-use Rattle.told.specs.Words.{timer_of}
+use Rattle.words.specs.Words.{timer_of}
 use Rattle.circuit.specs.declared.record.Circuit.{Circuit}
 use Rattle.circuit.specs.declared.record.Reset.TheVariants as reset
 use Rattle.circuit.specs.declared.rules.Rule.TheVariants.{Reset}
-use Rattle.told.specs.declared.kinds.Timer.{Timer}
-use Rattle.told.specs.declared.kinds.Timer.TheVariants.{T1, T5, T12, T13, T14, T15, T16, T17, T18, T19, T20, T21, T22, T23}
+use Rattle.words.specs.declared.kinds.Timer.{Timer}
+use Rattle.words.specs.declared.kinds.Timer.TheVariants.{T1, T5, T12, T13, T14, T15, T16, T17, T18, T19, T20, T21, T22, T23}
 use Rattle.refusal.specs.declared.reasons.Refusal.{Refusal}
 use Rattle.refusal.specs.declared.reasons.Refusal.TheVariants.{Argument, Address}
 use Rattle.supervision.specs.declared.trunk.Config.{Config}

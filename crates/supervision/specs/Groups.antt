@@ -8,6 +8,7 @@ use Rattle.status.specs.Bits.{octets_for}
 use Rattle.supervision.specs.declared.trunk.Config.{Config}
 use Rattle.supervision.specs.Trunks.{placed}
 use Rattle.supervision.specs.Orders.{group_message}
+use Rattle.supervision.specs.declared.limits.TheConstants.{SLOTS}
 
 -- the number whose bits below n are set where the test holds
 abbrev pub bits_below : (ℕ → Bool) → ℕ → ℕ
@@ -16,7 +17,7 @@ bits_below p (suc n) = bits_below p n + cond (p n) (2 ^ n) 0
 
 -- the mask of the circuits of a PCM system that are as the test says; time slot 0 is never one
 abbrev pub mask_by : (ℕ → Circuit → Bool) → ℕ → List Circuit → ℕ
-mask_by p system table = bits_below (λ slot. nat_lt 0 slot && p (system * 32 + slot) (placed table (system * 32 + slot))) 32
+mask_by p system table = bits_below (λ slot. nat_lt 0 slot && p (system * SLOTS + slot) (placed table (system * SLOTS + slot))) 32
 
 -- our message for them, if there is one
 abbrev pub group_for : Config → Grouped → BlockType → (ℕ → Circuit → Bool) → ℕ → List Circuit → List Msg

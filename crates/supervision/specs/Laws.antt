@@ -9,14 +9,15 @@ use Rattle.circuit.specs.Orders.{on_reset}
 use Rattle.circuit.specs.declared.record.Circuit.{Circuit}
 use Rattle.circuit.specs.declared.record.Reset.TheVariants as reset
 use Rattle.circuit.specs.declared.rules.Rule.{Rule}
-use Rattle.told.specs.declared.kinds.Word.{Word}
-use Rattle.told.specs.declared.kinds.Word.TheVariants.{Send, Begun, Ended, Alert}
+use Rattle.words.specs.declared.kinds.Word.{Word}
+use Rattle.words.specs.declared.kinds.Word.TheVariants.{Send, Begun, Ended, Alert}
 use Rattle.refusal.specs.declared.reasons.Refusal.{Refusal}
 use Rattle.supervision.specs.declared.trunk.Config.{Config}
 use Rattle.supervision.specs.Lending.{AreRead, Lent, kept, Done}
 use Rattle.supervision.specs.Moves.{Move, table_of, words_of}
 use Rattle.supervision.specs.Orders.{singly, slots, every_slot, status_of}
 use Rattle.supervision.specs.Trunks.{cic_at, placed}
+use Rattle.supervision.specs.declared.limits.TheConstants.{OCTETS, SLOTS, WORDS}
 
 -- every record is sound
 abbrev pub AllSound : List Circuit → Type 0
@@ -71,7 +72,7 @@ pub record Outcome (t : Config) (answer : Lent → Result Move Refusal) (r : Res
   -- what is written is within the outputs
   pub within : IfOk r (λ n. (n.0 ≤ length before.words) × (n.1 ≤ length before.octets))
   -- and takes no more than has to be lent
-  pub few : IfOk r (λ n. (n.0 ≤ 96) × (n.1 ≤ 320))
+  pub few : IfOk r (λ n. (n.0 ≤ WORDS) × (n.1 ≤ OCTETS))
   -- each message that is sent may be written, and is read as it was meant
   pub read : Readable (answer before)
 
@@ -82,7 +83,7 @@ pub record GroupOrder (t : Config) (system mask : ℕ) (rule : Rule) (m : Move) 
       → (one : Move) × (singly t (cic_at t k) rule message before.table ≡ Ok one) × (placed after.table k ≡ placed (table_of one before.table) k)
       × (about (t.first.0 + k) (words_of t m before.table) ≡ about (t.first.0 + k) (words_of t one before.table))
   -- the status of the message names exactly the circuits of the mask
-  pub names : (n : ℕ) → n ≤ 30 → is_named 30 (status_of mask) n ≡ slots system mask (system * 32 + 1 + n)
+  pub names : (n : ℕ) → n ≤ 30 → is_named 30 (status_of mask) n ≡ slots system mask (system * SLOTS + 1 + n)
 
 abbrev pub GroupLaws : Config → ℕ → ℕ → Rule → Result Move Refusal → Lent → Lent → Type 0
 GroupLaws t system mask rule (Err e) before after = after ≡ before

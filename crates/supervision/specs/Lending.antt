@@ -4,11 +4,12 @@ use Rattle.message.specs.Decode.{decode}
 use Rattle.message.specs.Encode.{encode, plain, refusal_of}
 use Rattle.message.specs.Msg.{Msg}
 use Rattle.circuit.specs.Circuits.{is_open}
-use Rattle.told.specs.Words.{number_of}
+use Rattle.words.specs.Words.{number_of}
 use Rattle.circuit.specs.declared.record.Circuit.{Circuit}
 use Rattle.refusal.specs.declared.reasons.Refusal.{Refusal}
 use Rattle.supervision.specs.declared.trunk.Config.{Config}
 use Rattle.supervision.specs.Moves.{Move, table_of, words_of, octets_of}
+use Rattle.supervision.specs.declared.limits.TheConstants.{OCTETS, SLOTS, WORDS}
 
 -- the table, the policy's set and both outputs
 pub record Lent : Type 0 where
@@ -22,15 +23,15 @@ lent t h w o = record { table = t; held = h; words = w; octets = o }
 
 -- enough is lent: 32 places for each PCM system, a policy that takes as many, and room for all that an operation writes
 pub record Suffices (t : Config) (room : ℕ) (before : Lent) : Type 0 where
-  pub table : length before.table ≡ t.systems * 32
+  pub table : length before.table ≡ t.systems * SLOTS
   pub places : length before.table ≤ room
-  pub words : 96 ≤ length before.words
-  pub octets : 320 ≤ length before.octets
+  pub words : WORDS ≤ length before.words
+  pub octets : OCTETS ≤ length before.octets
 
 -- a message that can be sent: it keeps the limits of its type, and fits the octets that are lent
 pub record Sendable (m : Msg) : Type 0 where
   pub allowed : refusal_of m ≡ None
-  pub short : length (encode m) ≤ 320
+  pub short : length (encode m) ≤ OCTETS
 
 -- written from the start of an output, the rest as it was
 abbrev pub over : {X : Type 0} → List X → List X → List X
@@ -75,7 +76,7 @@ pub record Performed (t : Config) (m : Move) (n : ℕ × ℕ) (before after : Le
   pub carries : after ≡ carried t m before
   pub within : (n.0 ≤ length before.words) × (n.1 ≤ length before.octets)
   -- it takes no more than has to be lent, and what it sends is read
-  pub few : (n.0 ≤ 96) × (n.1 ≤ 320)
+  pub few : (n.0 ≤ WORDS) × (n.1 ≤ OCTETS)
   pub read : AreRead m.sent
 
 -- what an operation does, by what the rules answer: refused, all is as it was; accepted, all is as the move says

@@ -1,6 +1,6 @@
 -- What the rules answer to the orders of our side: a refusal, or a move.
 use Rattle.std.specs.Prelude.{ℕ, ◌+◌, ◌-◌, ◌/◌, ◌%◌, ◌^◌, Bool, cond, not, ◌&&◌, ◌||◌, List, [], ◌∷◌, length, None, Ok, Result, ◌==◌, nat_le, nat_lt}
-use Rattle.status.specs.declared.circuit.Cic.{Cic}
+use Rattle.status.specs.declared.cic.Cic.{Cic}
 use Rattle.message.specs.Meaning.{indicator_of}
 use Rattle.message.specs.Msg.{Msg, single, release, grouped, group_reset}
 use Rattle.message.specs.declared.kinds.BlockType.{BlockType}
@@ -11,7 +11,7 @@ use Rattle.message.specs.declared.kinds.Single.TheVariants.{Rsc, Blo, Ubl}
 use Rattle.circuit.specs.Circuits.{vacant}
 use Rattle.circuit.specs.Laws.{allows}
 use Rattle.circuit.specs.Orders.{applied}
-use Rattle.circuit.specs.declared.record.Cause.{Cause}
+use Rattle.circuit.specs.declared.record.CauseOctets.{CauseOctets}
 use Rattle.circuit.specs.declared.record.Circuit.{Circuit}
 use Rattle.circuit.specs.declared.record.Reset.TheVariants as reset
 use Rattle.circuit.specs.declared.rules.Rule.{Rule}
@@ -23,12 +23,13 @@ use Rattle.supervision.specs.Lending.{Lent}
 use Rattle.supervision.specs.Moves.{Move, some_from}
 use Rattle.refusal.specs.Refusals.{unless, and_then}
 use Rattle.supervision.specs.Trunks.{places, first_of, placed}
+use Rattle.supervision.specs.declared.limits.TheConstants.{OCTETS, SLOTS, WORDS}
 
 -- what every operation on an open trunk refuses first
 abbrev pub admitted : Config → ℕ → Lent → Result (Unit {0}) Refusal
 admitted t room lent =
     unless (nat_lt room (length lent.table)) Places
-    (unless (not (length lent.table == places t) || (nat_lt (length lent.words) 96 || nat_lt (length lent.octets) 320)) Buffers
+    (unless (not (length lent.table == places t) || (nat_lt (length lent.words) WORDS || nat_lt (length lent.octets) OCTETS)) Buffers
     (Ok tt))
 
 -- the circuit of a CIC; where the table has no such place, one that is not equipped
@@ -60,13 +61,13 @@ abbrev pub resetting : Config → ℕ → Cic → Lent → Result Move Refusal
 resetting t room cic lent = and_then (admitted t room lent) (λ _. singly t cic (Reset reset.Single) (single cic.0 Rsc) lent.table)
 
 -- location 0 to 15 and cause 0 to 127, as the two octets that are kept and sent
-abbrev pub cause_of : ℕ → ℕ → Result Cause Refusal
+abbrev pub cause_of : ℕ → ℕ → Result CauseOctets Refusal
 cause_of location value =
-    unless (nat_lt 15 location || nat_lt 127 value) Argument (Ok (record { location = 0x80 + location; value = 0x80 + value }))
+    unless (nat_lt 15 location || nat_lt 127 value) Argument (Ok (record { location_octet = 0x80 + location; value_octet = 0x80 + value }))
 
 -- our release, with the two octets of its cause
-abbrev pub release_message : ℕ → Cause → Msg
-release_message c cause = release c (cause.location ∷ cause.value ∷ [])
+abbrev pub release_message : ℕ → CauseOctets → Msg
+release_message c cause = release c (cause.location_octet ∷ cause.value_octet ∷ [])
 
 abbrev pub releasing : Config → ℕ → Cic → ℕ → ℕ → Lent → Result Move Refusal
 releasing t room cic location value lent =
@@ -76,7 +77,7 @@ releasing t room cic location value lent =
 
 -- the time slots of a PCM system whose mask bits are set
 abbrev pub slots : ℕ → ℕ → ℕ → Bool
-slots system mask k = k / 32 == system && mask / 2 ^ (k % 32) % 2 == 1
+slots system mask k = k / SLOTS == system && mask / 2 ^ (k % SLOTS) % 2 == 1
 
 -- all time slots but 0, which is no circuit
 abbrev pub every_slot : ℕ

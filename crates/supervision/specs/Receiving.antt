@@ -1,7 +1,7 @@
 -- What the rules answer to a message from the far exchange: a refusal, or a move.
 use Rattle.std.specs.Prelude.{ℕ, ◌+◌, ◌-◌, ◌/◌, ◌%◌, Bool, false, cond, not, ◌&&◌, List, [], ◌∷◌, ◌++◌, None, Ok, Result, ◌==◌, nat_le, nat_lt}
 use Rattle.status.specs.Bits.{is_named}
-use Rattle.status.specs.declared.circuit.Cic.{Cic}
+use Rattle.status.specs.declared.cic.Cic.{Cic}
 use Rattle.message.specs.Decode.{decode}
 use Rattle.message.specs.Msg.{Msg, single, release_complete, group_reset, group_reset_ack, grouped, release, call}
 use Rattle.message.specs.declared.kinds.BlockType.TheVariants.{Maintenance, Hardware}
@@ -22,6 +22,7 @@ use Rattle.supervision.specs.Moves.{Move, some_from}
 use Rattle.supervision.specs.Orders.{admitted, circuit_of, only, why_of, release_message}
 use Rattle.refusal.specs.Refusals.{raised, unless, and_then}
 use Rattle.supervision.specs.Trunks.{places, controls, covers}
+use Rattle.supervision.specs.declared.limits.TheConstants.{SLOTS}
 
 abbrev pub as_cic : ℕ → Cic
 as_cic c = record { 0 = c }
@@ -65,7 +66,7 @@ to_range t c r s m table =
 
 -- the hardware block of one circuit, asked again
 abbrev pub ask_again : Config → ℕ → List Circuit → List Msg
-ask_again t c table = group_for t Cgb Hardware (λ k x. only t (as_cic c) k && is_standing x.local.hardware) ((c - t.first.0) / 32) table
+ask_again t c table = group_for t Cgb Hardware (λ k x. only t (as_cic c) k && is_standing x.local.hardware) ((c - t.first.0) / SLOTS) table
 
 -- our maintenance block shows in the answer to a group reset where it is asked or set
 abbrev pub shows : Circuit → Bool
@@ -77,7 +78,7 @@ is_unexpected x = not (is_single x.reset) && is_connected x.call
 
 -- a group acknowledgement counts only from time slot 1 with range 30
 abbrev pub is_counted : Config → ℕ → ℕ → Bool
-is_counted t c r = (c - t.first.0) % 32 == 1 && r == 30
+is_counted t c r = (c - t.first.0) % SLOTS == 1 && r == 30
 
 abbrev pub heard : Config → Msg → List Circuit → Result Move Refusal
 heard t (single c Blo) table = to_one t c (on_far_block Maintenance) (λ _. single c Bla ∷ []) table

@@ -1,9 +1,8 @@
 -- Seizing: the policy chooses, and the choice has to be open.
-use Rattle.std.specs.Prelude.{◌≡◌, ℕ, ◌+◌, true, not, ◌||◌, List, length, is_ok, Some, None, Ok, Err, Option, Result, nat_eq, nat_lt}
+use Rattle.std.specs.Prelude.{◌↔◌, ◌≡◌, ℕ, ◌+◌, true, not, ◌||◌, List, length, is_ok, Some, None, Ok, Err, Option, Result, nat_eq, nat_lt}
 use Rattle.policy.specs.Sets.{Chosen}
 use Rattle.policy.specs.declared.interface.Place.{Place}
-use Rattle.policy.specs.declared.interface.Word.{Word}
-use Rattle.message.specs.Laws.{Exactly}
+use Rattle.policy.specs.declared.interface.Update.{Update}
 use Rattle.message.specs.Msg.{call}
 use Rattle.message.specs.declared.kinds.CallKind.TheVariants.{Iam}
 use Rattle.circuit.specs.Circuits.{is_open}
@@ -37,7 +36,7 @@ seizing t body choice table =
     (λ place. Ok (ordered (λ k. nat_eq k place.0) Seize (call (t.first.0 + place.0) Iam body)))
 
 -- a seizure by a policy: which member it names is free
-pub record Seizure {P : Type 0} (picks : Option Place → P → P → Type 0) (obeys : Word → P → P → Type 0) (t : Config) (body : List ℕ) (r : Result (ℕ × ℕ) Refusal) (before after : Lent) (old new : P) : Type 0 where
+pub record Seizure {P : Type 0} (picks : Option Place → P → P → Type 0) (obeys : Update → P → P → Type 0) (t : Config) (body : List ℕ) (r : Result (ℕ × ℕ) Refusal) (before after : Lent) (old new : P) : Type 0 where
   pub choice : Option Place
   -- it is a member, or none exactly if there is none
   pub chosen : Chosen before.held choice
@@ -45,11 +44,11 @@ pub record Seizure {P : Type 0} (picks : Option Place → P → P → Type 0) (o
   pub asked : (at : P) × picks choice old at × Tells obeys before.table after.table at new
   pub outcome : Outcome t (λ b. seizing t body choice b.table) r before after
   -- where the set is the open circuits, a seizure is accepted exactly if some circuit is open
-  pub fair : SetIsOpen before.table before.held → Exactly (is_ok r ≡ true) ((k : ℕ) × (is_open (placed before.table k) ≡ true))
+  pub fair : SetIsOpen before.table before.held → ((is_ok r ≡ true) ↔ ((k : ℕ) × (is_open (placed before.table k) ≡ true)))
 
-abbrev pub SeizedIf : {P : Type 0} → (Option Place → P → P → Type 0) → (Word → P → P → Type 0) → Config → List ℕ → Result (Unit {0}) Refusal → Result (ℕ × ℕ) Refusal → Lent → Lent → P → P → Type 0
+abbrev pub SeizedIf : {P : Type 0} → (Option Place → P → P → Type 0) → (Update → P → P → Type 0) → Config → List ℕ → Result (Unit {0}) Refusal → Result (ℕ × ℕ) Refusal → Lent → Lent → P → P → Type 0
 SeizedIf picks obeys t body (Err e) r before after old new = (r ≡ Err e) × (after ≡ before) × (new ≡ old)
 SeizedIf picks obeys t body (Ok u) r before after old new = Seizure picks obeys t body r before after old new
 
-abbrev pub Seized : {P : Type 0} → (Option Place → P → P → Type 0) → (Word → P → P → Type 0) → Config → ℕ → List ℕ → Result (ℕ × ℕ) Refusal → Lent → Lent → P → P → Type 0
+abbrev pub Seized : {P : Type 0} → (Option Place → P → P → Type 0) → (Update → P → P → Type 0) → Config → ℕ → List ℕ → Result (ℕ × ℕ) Refusal → Lent → Lent → P → P → Type 0
 Seized picks obeys t room body r before after old new = SeizedIf picks obeys t body (may_ask t room body before) r before after old new

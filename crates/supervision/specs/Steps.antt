@@ -2,7 +2,7 @@
 use Rattle.std.specs.Prelude.{◌≡◌, ℕ, ◌-◌, Bool, true, false, ◌&&◌, List, ◌++◌, map, length, None, slice_set, nat_le}
 use Rattle.status.specs.Bits.{is_named, set_bits}
 use Rattle.message.specs.Msg.{Msg}
-use Rattle.told.specs.Words.{number_of}
+use Rattle.words.specs.Words.{number_of}
 use Rattle.circuit.specs.Orders.{applied}
 use Rattle.circuit.specs.Signals.{on_gra}
 use Rattle.circuit.specs.declared.record.Circuit.{Circuit}

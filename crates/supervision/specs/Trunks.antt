@@ -1,15 +1,16 @@
 -- A trunk's places, CICs and time slots, and the circuits there.
 use Rattle.std.specs.Prelude.{ℕ, ◌+◌, ◌-◌, ◌*◌, ◌%◌, Bool, true, false, cond, not, ◌&&◌, Some, None, Option, ◌==◌, nat_le, nat_lt, List, slice_index_or}
 use Rattle.status.specs.Bits.{is_named}
-use Rattle.status.specs.declared.circuit.Cic.{Cic}
+use Rattle.status.specs.declared.cic.Cic.{Cic}
 use Rattle.circuit.specs.Circuits.{vacant}
 use Rattle.circuit.specs.declared.record.Circuit.{Circuit}
 use Rattle.policy.specs.declared.interface.Place.{Place}
 use Rattle.supervision.specs.declared.trunk.Config.{Config}
+use Rattle.supervision.specs.declared.limits.TheConstants.{SLOTS}
 
 -- 32 places for each PCM system
 abbrev pub places : Config → ℕ
-places t = t.systems * 32
+places t = t.systems * SLOTS
 
 -- the place of a CIC is its CIC minus the first
 abbrev pub place_of : Config → Cic → Option Place
@@ -35,7 +36,7 @@ controls t cic = same (cic.0 % 2 == 0) t.higher
 
 -- the CIC of time slot 1 of a PCM system, from which our group messages count
 abbrev pub first_of : Config → ℕ → ℕ
-first_of t system = t.first.0 + system * 32 + 1
+first_of t system = t.first.0 + system * SLOTS + 1
 
 -- the circuit at a place
 abbrev pub placed : List Circuit → ℕ → Circuit

@@ -5,8 +5,8 @@ ghost use Rattle.supervision.specs.Due.{holds, is_due, due_bits};
 ghost use Rattle.supervision.specs.Groups.{mask_by};
 ghost use Rattle.supervision.specs.Trunks.{placed};
 
+use crate::limits::{MOST_SYSTEMS, SLOTS};
 use crate::slots::{Effect, Slots};
-use crate::trunk::SLOTS;
 use circuit::{Call, Circuit, LocalBlock, Reset};
 use message::BlockType;
 use policy::Place;
@@ -36,6 +36,7 @@ pub(crate) struct Due<'a> {
 
 impl Condition {
     // Whether it holds of a circuit.
+    #[inline(always)]
     pub(crate) fn holds(self, circuit: Circuit) -> bool
         ensures { result ≡ holds self circuit }
     {
@@ -53,9 +54,10 @@ impl Condition {
 
 impl Due<'_> {
     // All circuits of a PCM system of which a condition holds.
+    #[inline(always)]
     pub(crate) fn of_system(system: usize, condition: Condition) -> Due<'static>
-        requires { system < 16 }
-        ensures { (k : ℕ) (x : Record) → k / 32 ≡ system
+        requires { system < MOST_SYSTEMS }
+        ensures { (k : ℕ) (x : Record) → k / SLOTS ≡ system
             → is_due result k x ≡ (x.equipped && holds condition x) }
     {
         let slots = Slots {
@@ -73,6 +75,7 @@ impl Due<'_> {
     }
 
     // Whether the circuit at a place is one of them.
+    #[inline(always)]
     fn is_at(self, place: Place, table: &[Circuit]) -> bool
         ensures { result ≡ is_due self.entry place.0 (placed table.now place.0) }
     {
@@ -86,6 +89,7 @@ impl Due<'_> {
     }
 
     // Whether the circuit n places after `from` is, where n is not below `start`.
+    #[inline(always)]
     fn is_in(self, from: Place, start: u32, n: u32, table: &[Circuit]) -> bool
         requires { from.0 + n < 8192 }
         ensures { result
@@ -96,6 +100,7 @@ impl Due<'_> {
 
     // A bit for each of the 32 places from `from` on, set where one of them is, and none below bit
     // `start`.
+    #[inline(always)]
     pub(crate) fn bits(self, from: Place, start: u32, table: &[Circuit]) -> u32
         requires { from.0 < 4096 }
         ensures { result ≡ due_bits self.entry from.0 start table.now }
@@ -108,8 +113,9 @@ impl Due<'_> {
     }
 
     // The mask of those of a PCM system. Time slot 0 is never one.
+    #[inline(always)]
     pub(crate) fn mask(self, system: usize, table: &[Circuit]) -> u32
-        requires { system < 16 }
+        requires { system < MOST_SYSTEMS }
         ensures { result ≡ mask_by (is_due self.entry) system table.now }
     {
         self.bits(Place(system * SLOTS), 1, table)

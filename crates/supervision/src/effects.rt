@@ -7,28 +7,30 @@ ghost use Rattle.circuit.specs.Laws.{told_of};
 ghost use Rattle.circuit.specs.Orders.{applied};
 ghost use Rattle.policy.specs.Sets.{Follows};
 ghost use Rattle.status.specs.Bits.{set_bits};
-ghost use Rattle.told.specs.Words.{number_of};
+ghost use Rattle.words.specs.Words.{number_of};
 ghost use Rattle.supervision.specs.Lending.{Performed, Sendable, Suffices, lent, over};
 ghost use Rattle.supervision.specs.Orders.{ordered};
 ghost use Rattle.supervision.specs.Receiving.{moving};
 ghost use Rattle.supervision.specs.Steps.{settled_at, named_by, touched, rule_by, tally, sending, Extends};
-ghost use Rattle.supervision.specs.Telling.{word_at, Tells};
+ghost use Rattle.supervision.specs.Telling.{update_at, Tells};
 ghost use Rattle.supervision.specs.Trunks.{places, cic_at, placed};
 
+use crate::limits::{OCTETS, WORDS};
 use crate::slots::{Effect, Slots};
 use crate::trunk::Trunk;
 use circuit::{Change, Circuit, Rule};
 use message::{Message, write};
 use policy::{Place, Policy};
 use status::Cic;
-use told::Word;
+use words::Word;
 
 // Writes a record whole, and offers its place if it opened, or withdraws it if it closed.
+#[inline(always)]
 fn put<P: Policy>(place: Place, new: Circuit, circuit: &mut Circuit, policy: &mut P)
     ensures circuit { circuit.new ≡ new }
     ensures held { P.Policy.held policy.new
         ≡ settled_at (P.Policy.held policy.old) place.0 (is_open circuit.old) (is_open new) }
-    ensures policy { Follows P.Policy.obeys (word_at place.0 (is_open circuit.old) (is_open new))
+    ensures policy { Follows P.Policy.obeys (update_at place.0 (is_open circuit.old) (is_open new))
         policy.old policy.new }
 {
     let was = circuit.is_open();
@@ -42,6 +44,7 @@ fn put<P: Policy>(place: Place, new: Circuit, circuit: &mut Circuit, policy: &mu
 }
 
 // Tells of the call of a circuit; how many words that takes.
+#[inline(always)]
 fn tell(cic: Cic, change: Change, words: &mut [u32]) -> usize
     requires { 2 ≤ length words.old }
     ensures words { words.new ≡ over (map number_of (told_of cic change)) words.old }
@@ -59,8 +62,11 @@ fn tell(cic: Cic, change: Change, words: &mut [u32]) -> usize
     count
 }
 
-// Does the rule to the circuit of a place, and tells of its call; how many words that takes.
-fn visit<P: Policy>(
+// Does the rule to the circuit of a place, and tells of its call; how many words that takes. It has
+// an instance for each caller, and so have those between, so that it is compiled for the rule that
+// is done there: else a circuit would take several times as long.
+#[inline(always)]
+fn visit<P: Policy, const CALLER: u8>(
     cic: Cic,
     place: Place,
     rule: Rule,
@@ -74,7 +80,7 @@ fn visit<P: Policy>(
         ≡ settled_at (P.Policy.held policy.old) place.0 (is_open circuit.old)
         (is_open (applied rule circuit.old).circuit) }
     ensures policy { Follows P.Policy.obeys
-        (word_at place.0 (is_open circuit.old) (is_open (applied rule circuit.old).circuit))
+        (update_at place.0 (is_open circuit.old) (is_open (applied rule circuit.old).circuit))
         policy.old policy.new }
     ensures words { words.new
         ≡ over (map number_of (told_of cic (applied rule circuit.old))) words.old }
@@ -86,6 +92,7 @@ fn visit<P: Policy>(
 }
 
 // Writes one message more, and tells the send; how many words and octets are written then.
+#[inline(always)]
 pub(crate) fn send(
     message: Message<'_>,
     written: (usize, usize),
@@ -93,10 +100,10 @@ pub(crate) fn send(
     octets: &mut [u8],
 ) -> (usize, usize)
     requires writable { refusal_of (meaning message) ≡ None }
-    requires word { written.0 < 96 }
-    requires room { written.1 + length (encode (meaning message)) ≤ 320 }
-    requires words { 96 ≤ length words.old }
-    requires octets { 320 ≤ length octets.old }
+    requires word { written.0 < WORDS }
+    requires room { written.1 + length (encode (meaning message)) ≤ OCTETS }
+    requires words { WORDS ≤ length words.old }
+    requires octets { OCTETS ≤ length octets.old }
     ensures sends { Extends (sending (meaning message.entry ∷ [])) written words.old octets.old
         result words.new octets.new }
     ensures told { result.0 ≡ written.0 + 1 }
@@ -113,7 +120,8 @@ pub(crate) fn send(
 }
 
 // Does its effect at each equipped place of slots; how many words that takes.
-pub(crate) fn sweep<P: Policy>(
+#[inline(always)]
+pub(crate) fn sweep<P: Policy, const CALLER: u8>(
     trunk: Trunk,
     slots: Slots<'_>,
     effect: Effect,
@@ -124,7 +132,7 @@ pub(crate) fn sweep<P: Policy>(
     requires inside { slots.first.0 + slots.group.range.0 < length table.old }
     requires table { length table.old ≤ places trunk.config }
     requires room { tally effect slots (slots.group.range.0 + 1) ≤ 32 }
-    requires words { 96 ≤ length words.old }
+    requires words { WORDS ≤ length words.old }
     ensures done { (octets : List ℕ)
         → Performed trunk.config
         (moving (touched effect slots.entry) (rule_by effect slots.entry) []) (result, 0)
@@ -140,7 +148,7 @@ pub(crate) fn sweep<P: Policy>(
             let rule = slots.rule(effect, n as u8);
             let place = Place(slots.first.0 + n);
             let rest = &mut words[count..];
-            count += visit(trunk.cic_at(place), place, rule, circuit, policy, rest);
+            count += visit::<P, CALLER>(trunk.cic_at(place), place, rule, circuit, policy, rest);
         }
     }
     count
@@ -148,7 +156,8 @@ pub(crate) fn sweep<P: Policy>(
 
 impl Trunk {
     // Does a rule at the place of an equipped circuit; how many words that takes.
-    pub(crate) fn change_at<P: Policy>(
+    #[inline(always)]
+    pub(crate) fn change_at<P: Policy, const CALLER: u8>(
         self,
         place: Place,
         rule: Rule,
@@ -168,11 +177,12 @@ impl Trunk {
         ensures few { result ≤ 2 }
     {
         let circuit = &mut table[place.0];
-        visit(self.cic_at(place), place, rule, circuit, policy, words)
+        visit::<P, CALLER>(self.cic_at(place), place, rule, circuit, policy, words)
     }
 
     // Does a rule at the place of an equipped circuit, and sends a message.
-    pub(crate) fn perform_at<P: Policy>(
+    #[inline(always)]
+    pub(crate) fn perform_at<P: Policy, const CALLER: u8>(
         self,
         place: Place,
         rule: Rule,
@@ -193,12 +203,13 @@ impl Trunk {
             (lent table.new (P.Policy.held policy.new) words.new octets.new) }
         ensures policy { Tells P.Policy.obeys table.old table.new policy.old policy.new }
     {
-        let told = self.change_at(place, rule, table, policy, words);
+        let told = self.change_at::<P, CALLER>(place, rule, table, policy, words);
         send(message, (told, 0), words, octets)
     }
 
     // Does a rule at each circuit that slots name, and sends a message.
-    pub(crate) fn perform<P: Policy>(
+    #[inline(always)]
+    pub(crate) fn perform<P: Policy, const CALLER: u8>(
         self,
         slots: Slots<'_>,
         rule: Rule,
@@ -219,7 +230,7 @@ impl Trunk {
             (lent table.new (P.Policy.held policy.new) words.new octets.new) }
         ensures policy { Tells P.Policy.obeys table.old table.new policy.old policy.new }
     {
-        let told = sweep(self, slots, Effect::Marked(rule), table, policy, words);
+        let told = sweep::<P, CALLER>(self, slots, Effect::Marked(rule), table, policy, words);
         send(message, (told, 0), words, octets)
     }
 }

@@ -21,18 +21,20 @@ ghost use Rattle.supervision.specs.Trunks.{places, first_of};
 use crate::due::{Condition, Due};
 use crate::effects::send;
 use crate::group::{RANGE, slots_of};
+use crate::limits::{OCTETS, WORDS};
 use crate::sending::alert;
 use crate::slots::{Effect, Slots};
 use crate::trunk::Trunk;
 use circuit::{Circuit, Reset, Rule};
-use message::{BlockType, Grouped, Message, Single};
+use message::{BlockType, Cause, Grouped, Message, Single};
 use policy::{Place, Policy};
 use refusal::Refusal;
 use status::Cic;
-use told::Timer;
+use words::Timer;
 
 // Sends a message once more, with the alert that there may be; how many words and octets that
 // takes.
+#[inline(always)]
 fn repeat(
     message: Message<'_>,
     timer: Option<Timer>,
@@ -40,9 +42,9 @@ fn repeat(
     octets: &mut [u8],
 ) -> (usize, usize)
     requires writable { refusal_of (meaning message) ≡ None }
-    requires words { 96 ≤ length words.old }
-    requires octets { 320 ≤ length octets.old }
-    requires short { length (encode (meaning message)) ≤ 320 }
+    requires words { WORDS ≤ length words.old }
+    requires octets { OCTETS ≤ length octets.old }
+    requires short { length (encode (meaning message)) ≤ OCTETS }
     ensures { (t : Numbers) (table : List Record) (held : List Bool)
         → Performed t
         (repeating (meaning message.entry ∷ []) (alert_for timer (cic_in (meaning message.entry))))
@@ -58,6 +60,7 @@ fn repeat(
 
 impl Trunk {
     // A message for one circuit alone, where it is still waited for.
+    #[inline(always)]
     fn repeat_one(
         self,
         cic: Cic,
@@ -69,8 +72,8 @@ impl Trunk {
         octets: &mut [u8],
     ) -> Result<(usize, usize), Refusal>
         requires table { length table.now ≡ places self.config }
-        requires words { 96 ≤ length words.old }
-        requires octets { 320 ≤ length octets.old }
+        requires words { WORDS ≤ length words.old }
+        requires octets { OCTETS ≤ length octets.old }
         ensures { (held : List Bool) → length table.now ≤ length held
             → Outcome self.config
             (λ before.
@@ -87,6 +90,7 @@ impl Trunk {
     }
 
     // Our release, with the cause that was kept.
+    #[inline(always)]
     fn repeat_release(
         self,
         cic: Cic,
@@ -95,8 +99,8 @@ impl Trunk {
         octets: &mut [u8],
     ) -> Result<(usize, usize), Refusal>
         requires table { length table.now ≡ places self.config }
-        requires words { 96 ≤ length words.old }
-        requires octets { 320 ≤ length octets.old }
+        requires words { WORDS ≤ length words.old }
+        requires octets { OCTETS ≤ length octets.old }
         ensures { (held : List Bool) → length table.now ≤ length held
             → Outcome self.config
             (λ before.
@@ -110,10 +114,11 @@ impl Trunk {
             return Ok((0, 0));
         }
         let cause = <[u8; 2]>::from(circuit.cause);
-        Ok(repeat(Message::Release(cic, &cause), None, words, octets))
+        Ok(repeat(Message::Release(cic, Cause(&cause)), None, words, octets))
     }
 
     // Our group message of a type for the circuits of a PCM system that wait, where some do.
+    #[inline(always)]
     fn repeat_group(
         self,
         system: usize,
@@ -125,8 +130,8 @@ impl Trunk {
         words: &mut [u32],
         octets: &mut [u8],
     ) -> Result<(usize, usize), Refusal>
-        requires words { 96 ≤ length words.old }
-        requires octets { 320 ≤ length octets.old }
+        requires words { WORDS ≤ length words.old }
+        requires octets { OCTETS ≤ length octets.old }
         ensures { (held : List Bool) → length table.now ≤ length held
             → Outcome self.config
             (λ before.
@@ -154,6 +159,7 @@ impl Trunk {
     }
 
     // A group reset, while some circuit of the PCM system waits for its answer.
+    #[inline(never)]
     fn repeat_group_reset(
         self,
         system: usize,
@@ -162,8 +168,8 @@ impl Trunk {
         words: &mut [u32],
         octets: &mut [u8],
     ) -> Result<(usize, usize), Refusal>
-        requires words { 96 ≤ length words.old }
-        requires octets { 320 ≤ length octets.old }
+        requires words { WORDS ≤ length words.old }
+        requires octets { OCTETS ≤ length octets.old }
         ensures { (held : List Bool) → length table.now ≤ length held
             → Outcome self.config
             (λ before.
@@ -182,6 +188,7 @@ impl Trunk {
     }
 
     // T5: a releasing circuit is reset, where that may be ordered, with an alert.
+    #[inline(never)]
     fn give_up<P: Policy>(
         self,
         cic: Cic,
@@ -208,13 +215,14 @@ impl Trunk {
             return Err(Refusal::State);
         }
         let message = Message::Single(cic, Single::Rsc);
-        let told = self.change_at(place, rule, table, policy, words);
+        let told = self.change_at::<P, 5>(place, rule, table, policy, words);
         let written = send(message, (told, 0), words, octets);
         Ok(alert(Timer::T5, cic, written, words))
     }
 
     // A group message of a type, given as its number: of blocks that are asked, or of blocks that
     // are lifting.
+    #[inline(never)]
     fn repeat_blocks(
         self,
         system: usize,
@@ -225,8 +233,8 @@ impl Trunk {
         words: &mut [u32],
         octets: &mut [u8],
     ) -> Result<(usize, usize), Refusal>
-        requires words { 96 ≤ length words.old }
-        requires octets { 320 ≤ length octets.old }
+        requires words { WORDS ≤ length words.old }
+        requires octets { OCTETS ≤ length octets.old }
         ensures { (held : List Bool) → length table.now ≤ length held
             → Outcome self.config
             (λ before.
@@ -242,8 +250,13 @@ impl Trunk {
         self.repeat_group(system, what, why, condition, timer, table, words, octets)
     }
 
-    // A timer expires, for a CIC or a PCM system as the timer asks, and a type, 0 maintenance or 1
-    // hardware, where it has one. Refused by 2, 3, 8 and 9, and T5 by 10 too.
+    /// A timer expires: T1, T5 and T12 to T17 at a CIC, T18 to T23 at a PCM system, T18 to T21 of a
+    /// type, 0 maintenance or 1 hardware. Where the message is still waited for it is sent again,
+    /// and the host starts the timer anew; else nothing is done, and the timer is over.
+    ///
+    /// Refused by 2 and 3 where too little is lent, by 8 for a timer that is none of these or a type
+    /// past 1, by 9 for a circuit or PCM system that the trunk does not have; T5 by 10 where a group
+    /// reset waits.
     pub fn expire<P: Policy>(
         self,
         timer: u8,

@@ -2,12 +2,13 @@
 ghost use Rattle.std.specs.Prelude.{◌≡◌, ◌+◌, ◌*◌, ◌<◌};
 ghost use Rattle.supervision.specs.Laws.{Outcome, GroupLaws, ResetAlike};
 ghost use Rattle.supervision.specs.Lending.{Suffices, lent};
-ghost use Rattle.supervision.specs.Orders.{groupwise, typed, clearing, status_of, why_of, group_message, group_blocking, group_unblocking, group_resetting};
+ghost use Rattle.supervision.specs.Orders.{groupwise, typed, clearing, status_of, why_of, group_message, group_resetting};
 ghost use Rattle.supervision.specs.Telling.{Tells};
 
 use crate::judging::type_of;
+use crate::limits::{MOST_SYSTEMS, SLOTS};
 use crate::slots::Slots;
-use crate::trunk::{SLOTS, Trunk};
+use crate::trunk::Trunk;
 use circuit::{Circuit, Reset, Rule};
 use message::{BlockType, Grouped, Message};
 use policy::{Place, Policy};
@@ -18,9 +19,10 @@ use status::{Group, Range};
 pub(crate) const RANGE: Range = Range(30);
 
 // The circuits of a PCM system from time slot 1 on, with a status.
+#[inline(always)]
 pub(crate) fn slots_of(system: usize, status: &[u8]) -> Slots<'_>
-    requires { system < 16 }
-    ensures first { result.first.0 ≡ system * 32 + 1 }
+    requires { system < MOST_SYSTEMS }
+    ensures first { result.first.0 ≡ system * SLOTS + 1 }
     ensures range { result.group.range.0 ≡ 30 }
     ensures status { result.group.status.now ≡ status.now }
 {
@@ -35,7 +37,8 @@ pub(crate) fn slots_of(system: usize, status: &[u8]) -> Slots<'_>
 
 impl Trunk {
     // Does an order for the circuits of a mask and sends its message.
-    fn order_group<P: Policy>(
+    #[inline(always)]
+    fn order_group<P: Policy, const CALLER: u8>(
         self,
         system: usize,
         mask: u32,
@@ -70,10 +73,11 @@ impl Trunk {
         slots.judge(rule, table)?;
         let cic = self.cic_at(slots.first);
         let message = Message::Grouped(cic, what, why, slots.group);
-        Ok(self.perform(slots, rule, message, table, policy, words, octets))
+        Ok(self.perform::<P, CALLER>(slots, rule, message, table, policy, words, octets))
     }
 
     // Resets the circuits of a PCM system and sends the message.
+    #[inline(always)]
     fn clear<P: Policy>(
         self,
         system: usize,
@@ -99,11 +103,12 @@ impl Trunk {
         let slots = slots_of(system, &every);
         let rule = Rule::Reset(Reset::Group);
         let message = Message::GroupReset(self.cic_at(slots.first), RANGE);
-        Ok(self.perform(slots, rule, message, table, policy, words, octets))
+        Ok(self.perform::<P, 0x17>(slots, rule, message, table, policy, words, octets))
     }
 
     // Does an order of a type for the circuits of a mask, by the rule for that type.
-    fn order_typed<P: Policy, F: Fn(BlockType) -> Rule>(
+    #[inline(always)]
+    pub(crate) fn order_typed<P: Policy, F: Fn(BlockType) -> Rule, const CALLER: u8>(
         self,
         rule: F,
         what: Grouped,
@@ -134,82 +139,12 @@ impl Trunk {
         self.admit(table, policy, words, octets)?;
         let why = type_of(kind, mask)?;
         let rule = rule(why);
-        self.order_group(system, mask, rule, what, why, table, policy, words, octets)
-    }
-
-    // Blocks the circuits of a mask: type 0 for maintenance, 1 for hardware, which ends their
-    // calls.
-    pub fn group_block<P: Policy>(
-        self,
-        kind: u8,
-        system: usize,
-        mask: u32,
-        table: &mut [Circuit],
-        policy: &mut P,
-        words: &mut [u32],
-        octets: &mut [u8],
-    ) -> Result<(usize, usize), Refusal>
-        ensures outcome { Outcome self.config
-            (group_blocking self.config P.Policy.PLACES kind system mask) result
-            (lent table.old (P.Policy.held policy.old) words.old octets.old)
-            (lent table.new (P.Policy.held policy.new) words.new octets.new) }
-        ensures group { GroupLaws self.config system mask (Rule.Block (why_of kind))
-            (group_blocking self.config P.Policy.PLACES kind system mask
-            (lent table.old (P.Policy.held policy.old) words.old octets.old))
-            (lent table.old (P.Policy.held policy.old) words.old octets.old)
-            (lent table.new (P.Policy.held policy.new) words.new octets.new) }
-        ensures policy { Tells P.Policy.obeys table.old table.new policy.old policy.new }
-    {
-        self.order_typed(
-            Rule::Block,
-            Grouped::Cgb,
-            kind,
-            system,
-            mask,
-            table,
-            policy,
-            words,
-            octets,
-        )
-    }
-
-    // Lifts the blocks of the circuits of a mask.
-    pub fn group_unblock<P: Policy>(
-        self,
-        kind: u8,
-        system: usize,
-        mask: u32,
-        table: &mut [Circuit],
-        policy: &mut P,
-        words: &mut [u32],
-        octets: &mut [u8],
-    ) -> Result<(usize, usize), Refusal>
-        ensures outcome { Outcome self.config
-            (group_unblocking self.config P.Policy.PLACES kind system mask) result
-            (lent table.old (P.Policy.held policy.old) words.old octets.old)
-            (lent table.new (P.Policy.held policy.new) words.new octets.new) }
-        ensures group { GroupLaws self.config system mask (Rule.Unblock (why_of kind))
-            (group_unblocking self.config P.Policy.PLACES kind system mask
-            (lent table.old (P.Policy.held policy.old) words.old octets.old))
-            (lent table.old (P.Policy.held policy.old) words.old octets.old)
-            (lent table.new (P.Policy.held policy.new) words.new octets.new) }
-        ensures policy { Tells P.Policy.obeys table.old table.new policy.old policy.new }
-    {
-        self.order_typed(
-            Rule::Unblock,
-            Grouped::Cgu,
-            kind,
-            system,
-            mask,
-            table,
-            policy,
-            words,
-            octets,
-        )
+        self.order_group::<P, CALLER>(system, mask, rule, what, why, table, policy, words, octets)
     }
 
     // Resets every circuit of a PCM system.
-    pub fn group_reset<P: Policy>(
+    #[inline(always)]
+    pub(crate) fn group_reset<P: Policy>(
         self,
         system: usize,
         table: &mut [Circuit],

@@ -7,20 +7,17 @@ ghost use Rattle.refusal.specs.Refusals.{unless};
 ghost use Rattle.supervision.specs.Trunks.{places, placed};
 ghost use Rattle.refusal.specs.declared.reasons.Refusal.TheVariants.{Address, State};
 
+use crate::limits::{OCTETS, WORDS};
 use crate::trunk::Trunk;
-use circuit::{Cause, Circuit, Rule};
+use circuit::{CauseOctets, Circuit, Rule};
 use message::BlockType;
 use policy::{Place, Policy};
 use refusal::Refusal;
 use status::Cic;
 
-// The fewest words and octets that are lent to an operation: room for all that one writes.
-pub const WORDS: usize = 96;
-
-pub const OCTETS: usize = 320;
-
 impl Trunk {
     // Whether enough is lent.
+    #[inline(always)]
     pub(crate) fn admit<P: Policy>(
         self,
         table: &[Circuit],
@@ -45,6 +42,7 @@ impl Trunk {
     }
 
     // The place of an equipped circuit.
+    #[inline(always)]
     pub(crate) fn find_equipped(self, cic: Cic, table: &[Circuit]) -> Result<Place, Refusal>
         requires { length table.now ≡ places self.config }
         ensures value { result
@@ -62,6 +60,7 @@ impl Trunk {
     }
 
     // The place of a circuit that an order may name.
+    #[inline(always)]
     pub(crate) fn find(self, cic: Cic, rule: Rule, table: &[Circuit]) -> Result<Place, Refusal>
         requires { length table.now ≡ places self.config }
         ensures value { result
@@ -81,19 +80,21 @@ impl Trunk {
 }
 
 // The two octets of a cause.
-pub(crate) fn cause_of(location: u8, value: u8) -> Result<Cause, Refusal>
+#[inline(always)]
+pub(crate) fn cause_of(location: u8, value: u8) -> Result<CauseOctets, Refusal>
     ensures { result ≡ cause_of location value }
 {
     if location > 15 || value > 127 {
         return Err(Refusal::Argument);
     }
-    Ok(Cause {
-        location: 0x80 + location,
-        value: 0x80 + value,
+    Ok(CauseOctets {
+        location_octet: 0x80 + location,
+        value_octet: 0x80 + value,
     })
 }
 
 // The type of a group order with a mask. It comes as its number, as operations take plain numbers.
+#[inline(always)]
 pub(crate) fn type_of(kind: u8, mask: u32) -> Result<BlockType, Refusal>
     ensures { result ≡ type_of kind mask }
 {

@@ -1,10 +1,11 @@
 // Opening a trunk: its numbers are tested, its table is filled, and its policy is told.
-ghost use Rattle.std.specs.Prelude.{◌≡◌, ℕ, ◌+◌, ◌*◌, ◌%◌, ◌<◌, ◌≤◌, true, false, ◌&&◌, length, slice_index_or};
+ghost use Rattle.std.specs.Prelude.{◌≡◌, ℕ, ◌+◌, ◌*◌, ◌%◌, ◌<◌, ◌≤◌, true, false, ◌&&◌, length, slice_index_or, IfNone, IfSome};
 ghost use Rattle.supervision.specs.Opening.{is_equipment, are_equipment, fits_trunk, opening, open_table, open_set, config_of, OpenedIf, OpenLaws, TellsOpen};
 ghost use Rattle.supervision.specs.Telling.{Tells, withdrawals, unopened};
 ghost use Rattle.policy.specs.Sets.{Follows};
 
-use crate::trunk::{Config, MOST_SYSTEMS, SLOTS, Trunk};
+use crate::limits::{MOST_SYSTEMS, SLOTS};
+use crate::trunk::{Config, Trunk};
 use circuit::Circuit;
 use policy::{Place, Policy};
 use refusal::Refusal;
@@ -17,31 +18,38 @@ fn is_equipment(word: u32) -> bool
     word % 2 == 0 && word / 2 % 2 == 1 && (word >> 31) % 2 == 1
 }
 
-fn are_equipment(equipment: &[u32]) -> bool
-    ensures { result ≡ are_equipment equipment.now }
+// The first PCM system whose word is none.
+fn unequipped(equipment: &[u32]) -> Option<usize>
+    ensures none { IfNone result (are_equipment equipment.now ≡ true) }
+    ensures found { IfSome result (λ system. are_equipment equipment.now ≡ false) }
 {
-    equipment.iter().all(|word| is_equipment(*word))
+    for (system, word) in equipment.iter().enumerate() {
+        if !is_equipment(*word) {
+            return Some(system);
+        }
+    }
+    None
 }
 
 // Whether these are the numbers of a trunk.
 fn fits_trunk(first: Cic, equipment: &[u32], places: usize) -> bool
     ensures value { result ≡ fits_trunk first.0 equipment.now places }
     ensures fits { result ≡ true
-        → (first.0 % 32 ≡ 0) × (1 ≤ length equipment.now) × (length equipment.now ≤ 16)
-        × (first.0 + length equipment.now * 32 ≤ 4096) × (places ≡ length equipment.now * 32) }
+        → (first.0 % SLOTS ≡ 0) × (1 ≤ length equipment.now) × (length equipment.now ≤ MOST_SYSTEMS)
+        × (first.0 + length equipment.now * SLOTS ≤ 4096) × (places ≡ length equipment.now * SLOTS) }
 {
     let systems = equipment.len();
     first.0 as usize % SLOTS == 0
         && (1..=MOST_SYSTEMS).contains(&systems)
         && first.0 as usize + systems * SLOTS <= 4096
         && places == systems * SLOTS
-        && are_equipment(equipment)
+        && unequipped(equipment).is_none()
 }
 
 // Fills the table: idle, no blocks, no reset, cause octets 0.
 // Goes by the equipment words, and by the number of each bit, which is the time slot.
 fn fill(equipment: &[u32], table: &mut [Circuit])
-    requires { length table.old ≡ length equipment.now * 32 }
+    requires { length table.old ≡ length equipment.now * SLOTS }
     ensures { table.new ≡ open_table equipment.now }
 {
     for (system, word) in equipment.iter().enumerate() {
@@ -76,8 +84,13 @@ fn offer_open<P: Policy>(table: &[Circuit], policy: &mut P)
 }
 
 impl Trunk {
-    // Opens a trunk. The equipment has a word for each PCM system: bit k says that time slot k is a
-    // circuit.
+    /// Opens a trunk. The equipment has a word for each PCM system: bit k says that time slot k is a
+    /// circuit. The table, whatever it was, has a circuit for each place afterwards, all idle; the
+    /// policy holds the open ones. The host keeps all three together.
+    ///
+    /// Refused by 1 where the first CIC is no multiple of 32, the PCM systems are not 1 to 16, CICs
+    /// pass 4,095, the table has not 32 places for each PCM system, or a word has bit 0 set or bit 1
+    /// or 31 clear; by 2 where the policy takes fewer places than the table has.
     pub fn open<P: Policy>(
         first: Cic,
         equipment: &[u32],

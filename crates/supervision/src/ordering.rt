@@ -3,31 +3,42 @@ ghost use Rattle.supervision.specs.Lending.{lent};
 ghost use Rattle.supervision.specs.Ordering.{Ordered};
 
 use crate::trunk::Trunk;
-use circuit::Circuit;
+use circuit::{Circuit, Reset, Rule};
+use message::{BlockType, Grouped, Single};
 use policy::Policy;
 use refusal::Refusal;
 use status::Cic;
 
-// An order of our side, with all that it is given.
+/// An order of our side, with all that it is given.
 #[derive(Clone, Copy)]
 pub enum Order<'a> {
-    // with the body of its IAM
+    /// Begins a call, with the body of its IAM, 1 to 256 octets, at the circuit that the policy
+    /// chooses; the begun word tells the host which one that is.
     Seize(&'a [u8]),
-    // with the location and the value of the cause
+    /// Releases a call, with the location, 0 to 15, and the value, 0 to 127, of its cause.
     Release { cic: Cic, location: u8, value: u8 },
+    /// Asks the far exchange to keep calls off a circuit, for maintenance.
     Block(Cic),
+    /// Asks it to lift that block.
     Unblock(Cic),
+    /// Ends the call of a circuit, clears its blocks, and asks the far exchange to do the same.
     Reset(Cic),
-    // with the type, 0 maintenance or 1 hardware, the PCM system and the mask, whose bit k is time
-    // slot k
+    /// Blocks the circuits of a mask: type 0 for maintenance, 1 for hardware, which ends their
+    /// calls; the PCM system, from 0; and the mask, whose bit k is time slot k.
     GroupBlock { kind: u8, system: usize, mask: u32 },
+    /// Lifts the blocks of the circuits of a mask.
     GroupUnblock { kind: u8, system: usize, mask: u32 },
-    // with the PCM system
+    /// Resets every circuit of a PCM system.
     GroupReset(usize),
 }
 
 impl Trunk {
-    // Does an order. Refused by 2, 3 and 8 to 12, as the order is.
+    /// Does an order, and answers how many words and how many octets it wrote. The host sends the
+    /// octets as the words say, in their order, and starts the timers of what it asked.
+    ///
+    /// Refused by 2 and 3 where too little is lent, by 8 for a number that is out of its range, by
+    /// 9 for a circuit that the trunk does not have, by 10 for one whose state does not allow it;
+    /// a seizure by 2, 3, 8, 11 and 12.
     pub fn order<P: Policy>(
         self,
         order: Order<'_>,
@@ -41,6 +52,7 @@ impl Trunk {
             (lent table.old (P.Policy.held policy.old) words.old octets.old)
             (lent table.new (P.Policy.held policy.new) words.new octets.new) policy.old policy.new }
     {
+        let (block, unblock) = (Grouped::Cgb, Grouped::Cgu);
         match order {
             Order::Seize(body) => self.seize(body, table, policy, words, octets),
             Order::Release {
@@ -48,14 +60,29 @@ impl Trunk {
                 location,
                 value,
             } => self.release(cic, location, value, table, policy, words, octets),
-            Order::Block(cic) => self.block(cic, table, policy, words, octets),
-            Order::Unblock(cic) => self.unblock(cic, table, policy, words, octets),
-            Order::Reset(cic) => self.reset(cic, table, policy, words, octets),
+            Order::Block(cic) => {
+                let rule = Rule::Block(BlockType::Maintenance);
+                self.order_single::<P, 0x13>(cic, rule, Single::Blo, table, policy, words, octets)
+            }
+            Order::Unblock(cic) => {
+                let rule = Rule::Unblock(BlockType::Maintenance);
+                self.order_single::<P, 0x14>(cic, rule, Single::Ubl, table, policy, words, octets)
+            }
+            Order::Reset(cic) => {
+                let rule = Rule::Reset(Reset::Single);
+                self.order_single::<P, 0x12>(cic, rule, Single::Rsc, table, policy, words, octets)
+            }
             Order::GroupBlock { kind, system, mask } => {
-                self.group_block(kind, system, mask, table, policy, words, octets)
+                let rule = Rule::Block;
+                self.order_typed::<P, _, 0x18>(
+                    rule, block, kind, system, mask, table, policy, words, octets,
+                )
             }
             Order::GroupUnblock { kind, system, mask } => {
-                self.group_unblock(kind, system, mask, table, policy, words, octets)
+                let rule = Rule::Unblock;
+                self.order_typed::<P, _, 0x19>(
+                    rule, unblock, kind, system, mask, table, policy, words, octets,
+                )
             }
             Order::GroupReset(system) => self.group_reset(system, table, policy, words, octets),
         }

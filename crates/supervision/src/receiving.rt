@@ -19,15 +19,17 @@ ghost use Rattle.supervision.specs.Trunks.{places};
 
 use crate::due::{Condition, Due};
 use crate::effects::{send, sweep};
+use crate::limits::{OCTETS, SLOTS, WORDS};
 use crate::slots::{Effect, Slots};
-use crate::trunk::{SLOTS, Trunk};
-use circuit::{Cause, Circuit, Reset, Rule, Signal};
-use message::{BlockType, CallKind, Grouped, Message, Single};
+use crate::trunk::Trunk;
+use circuit::{CauseOctets, Circuit, Reset, Rule, Signal};
+use message::{BlockType, CallKind, Cause, Grouped, Message, Single};
 use policy::Policy;
 use refusal::Refusal;
 use status::{Cic, Group, Range};
 
 // What a group message is to each circuit that it names.
+#[inline(always)]
 fn signal_of(what: Grouped, why: BlockType) -> Signal
     ensures { result ≡ signal_of what why }
 {
@@ -40,6 +42,7 @@ fn signal_of(what: Grouped, why: BlockType) -> Signal
 }
 
 // What a call message is to its circuit.
+#[inline(always)]
 fn call_signal(kind: CallKind, controlled: bool) -> Signal
     ensures { result ≡ call_signal kind controlled }
 {
@@ -50,6 +53,7 @@ fn call_signal(kind: CallKind, controlled: bool) -> Signal
 }
 
 // Whether no reset and no release of ours waits for an RLC, and a call is on the circuit.
+#[inline(always)]
 fn is_unexpected(circuit: Circuit) -> bool
     ensures { result ≡ is_unexpected circuit }
 {
@@ -58,6 +62,7 @@ fn is_unexpected(circuit: Circuit) -> bool
 
 // What a message for one circuit is answered by at once, from the record before.
 // A release needs the octets of its cause.
+#[inline(always)]
 fn reply_to<'a>(cic: Cic, signal: Signal, circuit: Circuit, cause: &'a [u8]) -> Option<Message<'a>>
     requires { cause.now ≡ 0x87 ∷ 0x9f ∷ [] }
     ensures value { replied result ≡ reply_to cic.0 signal circuit }
@@ -66,7 +71,7 @@ fn reply_to<'a>(cic: Cic, signal: Signal, circuit: Circuit, cause: &'a [u8]) -> 
     let local = circuit.local;
     match signal {
         Signal::Rel => Some(Message::ReleaseComplete(cic)),
-        Signal::Rlc if is_unexpected(circuit) => Some(Message::Release(cic, cause)),
+        Signal::Rlc if is_unexpected(circuit) => Some(Message::Release(cic, Cause(cause))),
         Signal::Block(_) => Some(Message::Single(cic, Single::Bla)),
         Signal::Unblock(_) => Some(Message::Single(cic, Single::Uba)),
         Signal::BlockAck(why) if local.of(why).is_none() => Some(Message::Single(cic, Single::Ubl)),
@@ -79,6 +84,7 @@ fn reply_to<'a>(cic: Cic, signal: Signal, circuit: Circuit, cause: &'a [u8]) -> 
 }
 
 // Sends that.
+#[inline(always)]
 fn reply(
     cic: Cic,
     signal: Signal,
@@ -88,10 +94,10 @@ fn reply(
     octets: &mut [u8],
 ) -> (usize, usize)
     requires cic { cic.0 < 4096 }
-    requires word { written.0 < 96 }
-    requires room { written.1 + 8 ≤ 320 }
-    requires words { 96 ≤ length words.old }
-    requires octets { 320 ≤ length octets.old }
+    requires word { written.0 < WORDS }
+    requires room { written.1 + 8 ≤ OCTETS }
+    requires words { WORDS ≤ length words.old }
+    requires octets { OCTETS ≤ length octets.old }
     ensures sends { Extends (sending (reply_to cic.0 signal circuit)) written words.old octets.old
         result words.new octets.new }
     ensures told { result.0 ≤ written.0 + 1 }
@@ -99,7 +105,7 @@ fn reply(
     ensures words { length words.new ≡ length words.old }
     ensures octets { length octets.new ≡ length octets.old }
 {
-    let cause = <[u8; 2]>::from(Cause::UNEXPECTED);
+    let cause = <[u8; 2]>::from(CauseOctets::UNEXPECTED);
     let Some(message) = reply_to(cic, signal, circuit, &cause) else {
         return written;
     };
@@ -109,6 +115,7 @@ fn reply(
 impl Trunk {
     // The circuits of a message for a range: none past the table, and none named that is not
     // equipped.
+    #[inline(always)]
     fn span<'a>(self, cic: Cic, group: Group<'a>, table: &[Circuit]) -> Result<Slots<'a>, Refusal>
         requires { length table.now ≡ places self.config }
         ensures value { result
@@ -142,7 +149,8 @@ impl Trunk {
     }
 
     // A message for one circuit that is answered at once, or not at all.
-    fn hear_one<P: Policy>(
+    #[inline(always)]
+    fn hear_one<P: Policy, const CALLER: u8>(
         self,
         cic: Cic,
         signal: Signal,
@@ -163,12 +171,13 @@ impl Trunk {
     {
         let place = self.find_equipped(cic, table)?;
         let circuit = table[place.0];
-        let told = self.change_at(place, Rule::Signal(signal), table, policy, words);
+        let told = self.change_at::<P, CALLER>(place, Rule::Signal(signal), table, policy, words);
         Ok(reply(cic, signal, circuit, (told, 0), words, octets))
     }
 
     // RSC: besides its effect and the answer at once, a hardware block that stands is asked again,
     // and RLC is sent.
+    #[inline(never)]
     fn hear_reset<P: Policy>(
         self,
         cic: Cic,
@@ -188,7 +197,7 @@ impl Trunk {
         let place = self.find_equipped(cic, table)?;
         let circuit = table[place.0];
         let rule = Rule::Signal(Signal::Rsc);
-        let told = self.change_at(place, rule, table, policy, words);
+        let told = self.change_at::<P, 0x92>(place, rule, table, policy, words);
         let written = reply(cic, Signal::Rsc, circuit, (told, 0), words, octets);
         let due = Due {
             slots: Slots::one(place),
@@ -203,6 +212,7 @@ impl Trunk {
 
     // CGB, CGU, CGBA, CGUA: the effect at each circuit whose bit is set, and one answer, or one for
     // each PCM system.
+    #[inline(never)]
     fn hear_group<P: Policy>(
         self,
         cic: Cic,
@@ -230,7 +240,7 @@ impl Trunk {
     {
         let slots = self.span(cic, group, table)?;
         let effect = Effect::Marked(Rule::Signal(signal_of(what, why)));
-        let told = sweep(self, slots, effect, table, policy, words);
+        let told = sweep::<P, 0x98>(self, slots, effect, table, policy, words);
         match what {
             Grouped::Cgb => {
                 let answer = Message::Grouped(cic, Grouped::Cgba, why, group);
@@ -263,6 +273,7 @@ impl Trunk {
 
     // GRS: each circuit of the range is reset; hardware blocks that stand are asked again, and GRA
     // shows maintenance blocks that stand.
+    #[inline(never)]
     fn hear_group_reset<P: Policy>(
         self,
         cic: Cic,
@@ -283,7 +294,7 @@ impl Trunk {
     {
         let slots = self.span(cic, Group { range, status: &[] }, table)?;
         let effect = Effect::Every(Rule::Signal(Signal::Grs));
-        let told = sweep(self, slots, effect, table, policy, words);
+        let told = sweep::<P, 0x97>(self, slots, effect, table, policy, words);
         let (what, why) = (Grouped::Cgb, BlockType::Hardware);
         let condition = Condition::Standing(why);
         let due = Due {
@@ -306,6 +317,7 @@ impl Trunk {
 
     // GRA: where it counts, group resets of the range end, and status bits become far maintenance
     // blocks.
+    #[inline(never)]
     fn hear_group_reset_ack<P: Policy>(
         self,
         cic: Cic,
@@ -330,11 +342,12 @@ impl Trunk {
         if !slots.is_system() {
             return Ok((0, 0));
         }
-        let told = sweep(self, slots, Effect::Acknowledged, table, policy, words);
+        let told = sweep::<P, 0xa9>(self, slots, Effect::Acknowledged, table, policy, words);
         Ok((told, 0))
     }
 
     // A message that was read.
+    #[inline(always)]
     fn hear<P: Policy>(
         self,
         message: Message<'_>,
@@ -356,26 +369,26 @@ impl Trunk {
         match message {
             Message::Single(cic, Single::Rsc) => self.hear_reset(cic, table, policy, words, octets),
             Message::Single(cic, Single::Blo) => {
-                self.hear_one(cic, Signal::Block(why), table, policy, words, octets)
+                self.hear_one::<P, 0x93>(cic, Signal::Block(why), table, policy, words, octets)
             }
             Message::Single(cic, Single::Ubl) => {
-                self.hear_one(cic, Signal::Unblock(why), table, policy, words, octets)
+                self.hear_one::<P, 0x94>(cic, Signal::Unblock(why), table, policy, words, octets)
             }
             Message::Single(cic, Single::Bla) => {
-                self.hear_one(cic, Signal::BlockAck(why), table, policy, words, octets)
+                self.hear_one::<P, 0x95>(cic, Signal::BlockAck(why), table, policy, words, octets)
             }
             Message::Single(cic, Single::Uba) => {
-                self.hear_one(cic, Signal::UnblockAck(why), table, policy, words, octets)
+                self.hear_one::<P, 0x96>(cic, Signal::UnblockAck(why), table, policy, words, octets)
             }
             Message::ReleaseComplete(cic) => {
-                self.hear_one(cic, Signal::Rlc, table, policy, words, octets)
+                self.hear_one::<P, 0x90>(cic, Signal::Rlc, table, policy, words, octets)
             }
             Message::Release(cic, _) => {
-                self.hear_one(cic, Signal::Rel, table, policy, words, octets)
+                self.hear_one::<P, 0x8c>(cic, Signal::Rel, table, policy, words, octets)
             }
             Message::Call(cic, kind, _) => {
                 let signal = call_signal(kind, self.controls(cic));
-                self.hear_one(cic, signal, table, policy, words, octets)
+                self.hear_one::<P, 0x81>(cic, signal, table, policy, words, octets)
             }
             Message::Grouped(cic, what, why, group) => {
                 self.hear_group(cic, what, why, group, table, policy, words, octets)
@@ -389,8 +402,12 @@ impl Trunk {
         }
     }
 
-    // Receives the octets of one message from the far exchange. Refused by 2 to 7 and 9; the host
-    // sends what it answers in the order of the words.
+    /// Receives the octets of one message from the far exchange, and answers how many words and how
+    /// many octets that wrote; the host sends the octets as the words say, in their order.
+    ///
+    /// Refused by 2 and 3 where too little is lent, by 4 to 7 where the octets are no message that
+    /// is listed, and by 9 where a circuit of the message is none of the trunk. A refused message
+    /// changes nothing.
     pub fn receive<P: Policy>(
         self,
         received: &[u8],

@@ -14,6 +14,7 @@ use policy::{Place, Policy};
 use refusal::Refusal;
 
 // The place of the policy's choice, which has to be open.
+#[inline(always)]
 fn pick<P: Policy>(table: &[Circuit], policy: &mut P) -> Result<Place, Refusal>
     ensures same { P.Policy.held policy.new ≡ P.Policy.held policy.old }
     ensures value { (choice : Maybe ChosenPlace) × Chosen (P.Policy.held policy.old) choice
@@ -30,7 +31,8 @@ fn pick<P: Policy>(table: &[Circuit], policy: &mut P) -> Result<Place, Refusal>
 
 impl Trunk {
     // Begins a call, with the body of its IAM, at the circuit that the policy chooses.
-    pub fn seize<P: Policy>(
+    #[inline(always)]
+    pub(crate) fn seize<P: Policy>(
         self,
         body: &[u8],
         table: &mut [Circuit],
@@ -49,6 +51,6 @@ impl Trunk {
         let place = pick(table, policy)?;
         let cic = self.cic_at(place);
         let message = Message::Call(cic, CallKind::Iam, body);
-        Ok(self.perform_at(place, Rule::Seize, message, table, policy, words, octets))
+        Ok(self.perform_at::<P, 0x01>(place, Rule::Seize, message, table, policy, words, octets))
     }
 }

@@ -10,22 +10,24 @@ ghost use Rattle.supervision.specs.Trunks.{places};
 use crate::due::Due;
 use crate::effects::send;
 use crate::group::slots_of;
-use crate::trunk::{SLOTS, Trunk};
+use crate::limits::{OCTETS, SLOTS, WORDS};
+use crate::trunk::Trunk;
 use circuit::Circuit;
 use message::{BlockType, Grouped, Message};
 use policy::Place;
 use status::Cic;
-use told::{Timer, Word};
+use words::{Timer, Word};
 
 // Tells the alert of a timer; how many words and octets are written then.
+#[inline(always)]
 pub(crate) fn alert(
     timer: Timer,
     cic: Cic,
     written: (usize, usize),
     words: &mut [u32],
 ) -> (usize, usize)
-    requires word { written.0 < 96 }
-    requires words { 96 ≤ length words.old }
+    requires word { written.0 < WORDS }
+    requires words { WORDS ≤ length words.old }
     ensures alerts { (octets : List ℕ)
         → Extends (alerting (Some (timer, cic))) written words.old octets result words.new octets }
     ensures told { result.0 ≡ written.0 + 1 }
@@ -36,6 +38,7 @@ pub(crate) fn alert(
 
 impl Trunk {
     // Sends our group message for the circuits of a PCM system that are due, if there are any.
+    #[inline(always)]
     pub(crate) fn send_group(
         self,
         system: usize,
@@ -48,10 +51,10 @@ impl Trunk {
         octets: &mut [u8],
     ) -> (usize, usize)
         requires system { system < self.config.systems }
-        requires word { written.0 < 96 }
-        requires room { written.1 + 11 ≤ 320 }
-        requires words { 96 ≤ length words.old }
-        requires octets { 320 ≤ length octets.old }
+        requires word { written.0 < WORDS }
+        requires room { written.1 + 11 ≤ OCTETS }
+        requires words { WORDS ≤ length words.old }
+        requires octets { OCTETS ≤ length octets.old }
         ensures sends { Extends
             (sending (group_for self.config what why (is_due due.entry) system table.now)) written
             words.old octets.old result words.new octets.new }
@@ -71,6 +74,7 @@ impl Trunk {
     }
 
     // Sends one for each PCM system of the range that has such circuits, rising.
+    #[inline(always)]
     pub(crate) fn send_groups(
         self,
         due: Due<'_>,
@@ -82,10 +86,10 @@ impl Trunk {
         octets: &mut [u8],
     ) -> (usize, usize)
         requires inside { due.slots.first.0 + due.slots.group.range.0 < places self.config }
-        requires word { written.0 + 16 ≤ 96 }
-        requires room { written.1 + 176 ≤ 320 }
-        requires words { 96 ≤ length words.old }
-        requires octets { 320 ≤ length octets.old }
+        requires word { written.0 + 16 ≤ WORDS }
+        requires room { written.1 + 176 ≤ OCTETS }
+        requires words { WORDS ≤ length words.old }
+        requires octets { OCTETS ≤ length octets.old }
         ensures sends { Extends
             (sending (groups self.config what why (is_due due.entry) table.now)) written
             words.old octets.old result words.new octets.new }

@@ -9,7 +9,7 @@ ghost use Rattle.supervision.specs.Moves.{some_from};
 ghost use Rattle.supervision.specs.Steps.{named_by, touched, rule_by};
 
 use crate::group::RANGE;
-use crate::trunk::SLOTS;
+use crate::limits::SLOTS;
 use circuit::{Circuit, Rule, Signal};
 use policy::Place;
 use refusal::Refusal;
@@ -35,6 +35,7 @@ pub(crate) struct Slots<'a> {
 
 impl Slots<'_> {
     // One circuit, with no status.
+    #[inline(always)]
     pub(crate) fn one(place: Place) -> Slots<'static>
         ensures first { result.first.0 ≡ place.0 }
         ensures range { result.group.range.0 ≡ 0 }
@@ -49,14 +50,16 @@ impl Slots<'_> {
     }
 
     // Whether they are a whole PCM system, from time slot 1 with range 30.
+    #[inline(always)]
     pub(crate) fn is_system(self) -> bool
         ensures { result
-            ≡ (self.entry.first.0 % 32 == 1 && self.entry.group.range.0 == 30) }
+            ≡ (self.entry.first.0 % SLOTS == 1 && self.entry.group.range.0 == 30) }
     {
         self.first.0 % SLOTS == 1 && self.group.range == RANGE
     }
 
     // Whether they name the n-th circuit of the range.
+    #[inline(always)]
     pub(crate) fn names(self, n: u8) -> bool
         ensures { result ≡ is_named self.entry.group.range.0 self.entry.group.status.now n }
     {
@@ -64,6 +67,7 @@ impl Slots<'_> {
     }
 
     // Whether the effect does something to the n-th circuit of the range.
+    #[inline(always)]
     pub(crate) fn touches(self, effect: Effect, n: u8) -> bool
         ensures { result ≡ touched effect self.entry (self.entry.first.0 + n) }
     {
@@ -74,6 +78,7 @@ impl Slots<'_> {
     }
 
     // What it does there.
+    #[inline(always)]
     pub(crate) fn rule(self, effect: Effect, n: u8) -> Rule
         ensures { (c : Circuit) → applied result c
             ≡ rule_by effect self.entry (self.entry.first.0 + n) c }
@@ -85,6 +90,7 @@ impl Slots<'_> {
     }
 
     // Whether each named circuit passes a test.
+    #[inline(always)]
     pub(crate) fn all<F: Fn(Circuit) -> bool>(self, passes: F, table: &[Circuit]) -> bool
         requires callable { F.IsAlwaysCallable passes }
         requires inside { self.first.0 + self.group.range.0 < length table.now }
@@ -98,6 +104,7 @@ impl Slots<'_> {
     }
 
     // Whether an order may name them.
+    #[inline(always)]
     pub(crate) fn judge(self, rule: Rule, table: &[Circuit]) -> Result<(), Refusal>
         requires { self.first.0 + self.group.range.0 < length table.now }
         ensures { result
@@ -106,12 +113,13 @@ impl Slots<'_> {
             (unless (some_from (λ k c. named_by self.entry k && not (allows rule c)) 0 table.now)
             State (Ok tt)) }
     {
+        if self.all(|circuit| circuit.equipped && rule.allows(circuit), table) {
+            return Ok(());
+        }
+        // a second look says which refusal it is
         if !self.all(|circuit| circuit.equipped, table) {
             return Err(Refusal::Address);
         }
-        if !self.all(|circuit| rule.allows(circuit), table) {
-            return Err(Refusal::State);
-        }
-        Ok(())
+        Err(Refusal::State)
     }
 }

@@ -1,9 +1,10 @@
 -- Worked sessions: a trunk of one PCM system from CIC 0 on, all time slots but 0 equipped, and we have the higher point code.
 use Rattle.std.specs.Prelude.{◌≡◌, ℕ, true, List, [], ◌∷◌, map, replicate, Ok, Err, Result, slice_set}
+use Rattle.policy.specs.declared.interface.TheConstants.{MOST_PLACES}
 use Rattle.message.specs.declared.kinds.BlockType.TheVariants.{Maintenance}
 use Rattle.circuit.specs.Changes.{with_call, with_locals}
 use Rattle.circuit.specs.Circuits.{fresh, with_block}
-use Rattle.told.specs.Words.{number_of}
+use Rattle.words.specs.Words.{number_of}
 use Rattle.circuit.specs.declared.record.Call.TheVariants.{Calling}
 use Rattle.circuit.specs.declared.record.Circuit.{Circuit}
 use Rattle.circuit.specs.declared.record.LocalBlock.{LocalBlock}
@@ -18,6 +19,7 @@ use Rattle.supervision.specs.Opening.{opening, open_table, open_set}
 use Rattle.supervision.specs.Orders.{group_blocking}
 use Rattle.supervision.specs.Receiving.{receiving}
 use Rattle.supervision.specs.Seizing.{may_ask}
+use Rattle.supervision.specs.declared.limits.TheConstants.{OCTETS, WORDS}
 
 abbrev pub equipment : List ℕ
 equipment = 0xffff_fffe ∷ []
@@ -27,11 +29,11 @@ trunk = record { first = record { 0 = 0 }; systems = 1; higher = true }
 
 -- the places that the policy takes
 abbrev pub room : ℕ
-room = 512
+room = MOST_PLACES
 
 -- a table with outputs of full size
 abbrev pub with_table : List Circuit → Lent
-with_table table = lent table (open_set room table) (replicate 96 0) (replicate 320 0)
+with_table table = lent table (open_set room table) (replicate WORDS 0) (replicate OCTETS 0)
 
 -- newly opened
 abbrev pub table : List Circuit

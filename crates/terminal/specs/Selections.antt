@@ -1,11 +1,12 @@
--- A policy of either method: its set, what a word makes of it, and what it chooses.
+-- A policy of either method: its set, what an update makes of it, and what it chooses.
 use Rattle.std.specs.Prelude.{◌≡◌, Bool, List, length, Option}
 use Rattle.policy.specs.Fields.{marks-length}
-use Rattle.policy.specs.Marks.{MarksWord, TakesNearest}
+use Rattle.policy.specs.Marks.{MarksUpdate, TakesNearest}
 use Rattle.policy.specs.Orders.{marks}
 use Rattle.policy.specs.Turns.{Reorders, TakesPreferred}
 use Rattle.policy.specs.declared.interface.Place.{Place}
-use Rattle.policy.specs.declared.interface.Word.{Word}
+use Rattle.policy.specs.declared.interface.TheConstants.{MOST_PLACES}
+use Rattle.policy.specs.declared.interface.Update.{Update}
 use Rattle.terminal.specs.declared.methods.Method.{Method}
 use Rattle.terminal.specs.declared.methods.Method.TheVariants as method
 use Rattle.terminal.specs.declared.selection.Selection.{Selection}
@@ -15,16 +16,16 @@ abbrev pub held_by : Selection → List Bool
 held_by (OneEnd p) = p.marks
 held_by (ReleaseOrder p) = marks p.links.links
 
-pub held_by-length : (s : Selection) → length (held_by s) ≡ 512
+pub held_by-length : (s : Selection) → length (held_by s) ≡ MOST_PLACES
 held_by-length (OneEnd p) = p.ok
-held_by-length (ReleaseOrder p) = marks-length p.links.links p.links.ok
+held_by-length (ReleaseOrder p) = marks-length p.links.links p.ok.0
 
 -- as the method says; it stays of that method
-abbrev pub obeys_by : Word → Selection → Selection → Type 0
-obeys_by w (OneEnd p) (OneEnd q) = MarksWord w p q
-obeys_by w (OneEnd p) (ReleaseOrder q) = ⊥
-obeys_by w (ReleaseOrder p) (OneEnd q) = ⊥
-obeys_by w (ReleaseOrder p) (ReleaseOrder q) = Reorders w p q
+abbrev pub obeys_by : Update → Selection → Selection → Type 0
+obeys_by u (OneEnd p) (OneEnd q) = MarksUpdate u p q
+obeys_by u (OneEnd p) (ReleaseOrder q) = ⊥
+obeys_by u (ReleaseOrder p) (OneEnd q) = ⊥
+obeys_by u (ReleaseOrder p) (ReleaseOrder q) = Reorders u p q
 
 abbrev pub picks_by : Option Place → Selection → Selection → Type 0
 picks_by o (OneEnd p) (OneEnd q) = TakesNearest o p q

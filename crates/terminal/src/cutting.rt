@@ -2,7 +2,7 @@
 use crate::numerals::{hex_octet, hex_word};
 use std::alloc::{AllocError, Global};
 
-// The words of a line: what stands between spaces.
+/// The words of a line: what stands between spaces.
 pub fn words_of(heap: Global, line: &[u8]) -> Result<Vec<&[u8]>, AllocError> {
     line.split(|byte| *byte == b' ')
         .filter(|word| !word.is_empty())
@@ -27,12 +27,12 @@ fn read_all<T: Drop, F: Fn(&[u8]) -> Option<T>>(
     Ok(Some(all))
 }
 
-// Octets, each of two hexadecimal digits.
+/// Octets, each of two hexadecimal digits.
 pub fn read_octets(heap: Global, words: &[&[u8]]) -> Result<Option<Vec<u8>>, AllocError> {
     read_all(heap, words, hex_octet)
 }
 
-// Equipment words, each of 1 to 8 hexadecimal digits.
+/// Equipment words, each of 1 to 8 hexadecimal digits.
 pub fn read_equipment(heap: Global, words: &[&[u8]]) -> Result<Option<Vec<u32>>, AllocError> {
     read_all(heap, words, hex_word)
 }

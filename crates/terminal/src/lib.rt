@@ -3,17 +3,19 @@
 #![tactic(auto)]
 
 mod cutting;
-mod event;
+mod input;
 mod methods;
 mod numerals;
 mod operation;
+mod remarks;
 mod selection;
 mod wording;
 
 pub use cutting::{read_equipment, read_octets, words_of};
-pub use event::{Event, read_event};
+pub use input::{Input, read_input};
 pub use methods::{Method, read_method};
 pub use numerals::{decimal, decimal_cic, decimal_octet, hex_octet, hex_word};
 pub use operation::{Expiry, Operation, Slots, read_expiry, read_operation};
+pub use remarks::{is_blank, is_remark};
 pub use selection::Selection;
 pub use wording::{OrNone, Standing, Told};

@@ -3,12 +3,12 @@ use policy::End;
 
 #[derive(Clone, Copy)]
 pub enum Method {
-    // the one nearest to an end of the table
+    /// the one nearest to an end of the table
     OneEnd(End),
     ReleaseOrder,
 }
 
-// The method that a word names.
+/// The method that a word names.
 pub fn read_method(word: &[u8]) -> Option<Method> {
     match word {
         b"low" => Some(Method::OneEnd(End::Low)),

@@ -22,7 +22,7 @@ fn number(word: &[u8], radix: u32) -> Option<u64>
     u64::from_str_radix(text, radix).ok()
 }
 
-// A decimal number below 2^64.
+/// A decimal number below 2^64.
 pub fn decimal(word: &[u8]) -> Option<u64>
     ensures { SomeIff result (IsNumeral 10 word.now × (digits_value 10 word.now < 2 ^ 64))
         (digits_value 10 word.now) }
@@ -30,7 +30,7 @@ pub fn decimal(word: &[u8]) -> Option<u64>
     number(word, 10)
 }
 
-// A decimal number below 256.
+/// A decimal number below 256.
 pub fn decimal_octet(word: &[u8]) -> Option<u8>
     ensures { SomeIff result (IsNumeral 10 word.now × (digits_value 10 word.now < 2 ^ 8))
         (digits_value 10 word.now) }
@@ -38,7 +38,7 @@ pub fn decimal_octet(word: &[u8]) -> Option<u8>
     u8::try_from(decimal(word)?).ok()
 }
 
-// A CIC, decimal and below 2^16.
+/// A CIC, decimal and below 2^16.
 pub fn decimal_cic(word: &[u8]) -> Option<Cic>
     ensures { SomeIff result (IsNumeral 10 word.now × (digits_value 10 word.now < 2 ^ 16))
         (record { 0 = digits_value 10 word.now }) }
@@ -46,7 +46,7 @@ pub fn decimal_cic(word: &[u8]) -> Option<Cic>
     Some(Cic(u16::try_from(decimal(word)?).ok()?))
 }
 
-// A mask or an equipment word: 1 to 8 hexadecimal digits.
+/// A mask or an equipment word: 1 to 8 hexadecimal digits.
 pub fn hex_word(word: &[u8]) -> Option<u32>
     ensures { SomeIff result (IsNumeral 16 word.now × (length word.now ≤ 8))
         (digits_value 16 word.now) }
@@ -57,7 +57,7 @@ pub fn hex_word(word: &[u8]) -> Option<u32>
     u32::try_from(number(word, 16)?).ok()
 }
 
-// An octet: two hexadecimal digits.
+/// An octet: two hexadecimal digits.
 pub fn hex_octet(word: &[u8]) -> Option<u8>
     ensures { SomeIff result (IsNumeral 16 word.now × (length word.now ≡ 2))
         (digits_value 16 word.now) }

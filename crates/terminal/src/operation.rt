@@ -5,34 +5,34 @@ use status::Cic;
 use std::alloc::{AllocError, Global};
 use supervision::Order;
 
-// Circuits of a PCM system, to block or unblock for a type of reason.
+/// Circuits of a PCM system, to block or unblock for a type of reason.
 #[derive(Clone, Copy)]
 pub struct Slots {
-    // a number, as operations take it
+    /// a number, as operations take it
     pub kind: u8,
     pub system: usize,
-    // bit k names time slot k
+    /// bit k names time slot k
     pub mask: u32,
 }
 
-// An order, with a body of its own.
+/// An order, with a body of its own.
 #[derive(Drop)]
 pub enum Operation {
-    // with the body of the IAM
+    /// with the body of the IAM
     Seize(Vec<u8>),
-    // with the location and the value of the cause
+    /// with the location and the value of the cause
     Release(Cic, u8, u8),
     Block(Cic),
     Unblock(Cic),
     Reset(Cic),
     GroupBlock(Slots),
     GroupUnblock(Slots),
-    // the number of the PCM system
+    /// the number of the PCM system
     GroupReset(usize),
 }
 
 impl Operation {
-    // The order, as a trunk takes it.
+    /// The order, as a trunk takes it.
     pub fn as_order(&self) -> Order<'_> {
         match self {
             Operation::Seize(body) => Order::Seize(body.as_slice()),
@@ -59,7 +59,7 @@ impl Operation {
     }
 }
 
-// The order that words say, or `None` where they say none.
+/// The order that words say, or `None` where they say none.
 pub fn read_operation(heap: Global, words: &[&[u8]]) -> Result<Option<Operation>, AllocError> {
     match words {
         [b"seize", body @ ..] => Ok(read_octets(heap, body)?.map(Operation::Seize)),
@@ -97,7 +97,7 @@ fn read_slots(kind: &[u8], system: &[u8], mask: &[u8]) -> Option<Slots> {
     })
 }
 
-// A timer that expires, at a CIC or a PCM system and of a type as it asks, by its numbers.
+/// A timer that expires, at a CIC or a PCM system and of a type as it asks, by its numbers.
 #[derive(Clone, Copy)]
 pub struct Expiry {
     pub timer: u8,
@@ -105,7 +105,7 @@ pub struct Expiry {
     pub kind: u8,
 }
 
-// The expiry that words say; a type left out is 0.
+/// The expiry that words say; a type left out is 0.
 pub fn read_expiry(words: &[&[u8]]) -> Option<Expiry> {
     let (timer, at, kind) = match words {
         [timer, at] => (timer, at, 0),

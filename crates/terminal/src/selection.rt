@@ -2,9 +2,10 @@
 // constant.
 ghost use Rattle.terminal.specs.Selections.{held_by, held_by-length, obeys_by, picks_by, made_by};
 ghost use Rattle.std.specs.Prelude.{◌≡◌, false, replicate};
+ghost use Rattle.policy.specs.declared.interface.TheConstants.{MOST_PLACES};
 
 use crate::methods::Method;
-use policy::{Place, Policy, ReleaseOrder, Sequential};
+use policy::{MOST_PLACES, Place, Policy, ReleaseOrder, Sequential};
 
 #[derive(Clone, Copy)]
 pub enum Selection {
@@ -13,10 +14,10 @@ pub enum Selection {
 }
 
 impl Selection {
-    // A policy that holds nothing. With the higher point code the even places are controlled.
+    /// A policy that holds nothing. With the higher point code the even places are controlled.
     pub fn new(method: Method, higher: bool) -> Selection
         ensures made { made_by method higher result }
-        ensures none { held_by result ≡ replicate 512 false }
+        ensures none { held_by result ≡ replicate MOST_PLACES false }
     {
         match method {
             Method::OneEnd(end) => Selection::OneEnd(Sequential::new(end)),
@@ -26,9 +27,9 @@ impl Selection {
 }
 
 impl Policy for Selection {
-    const PLACES: usize = 512;
+    const PLACES: usize = MOST_PLACES;
 
-    ghost PLACES = { 512 };
+    ghost PLACES = { MOST_PLACES };
 
     ghost held = { held_by };
 

@@ -1,14 +1,12 @@
 // What an exchange tells, and how its circuits stand, in words.
-ghost use Rattle.std.specs.Prelude.{◌≡◌, ◌+◌, ◌≤◌, length, take, drop};
-
 use circuit::Circuit;
+use exchange::Event;
 use explain::{Explanation, Hex};
 use message::read;
 use status::Cic;
 use std::fmt;
-use told::Word;
 
-// Numbers as hexadecimal digits, or `-` for none.
+/// Numbers as hexadecimal digits, or `-` for none.
 #[derive(Clone, Copy)]
 pub struct OrNone<'a, T, const DIGITS: usize>(pub Hex<'a, T, DIGITS>);
 
@@ -23,37 +21,23 @@ impl<T: fmt::Radix + Copy, const DIGITS: usize> fmt::Display for OrNone<'_, T, D
     }
 }
 
-// A word told, with the octets that a message to send stands in.
+/// What a host is told.
 #[derive(Clone, Copy)]
-pub struct Told<'a> {
-    pub number: u32,
-    pub octets: &'a [u8],
-}
+pub struct Told<'a>(pub Event<'a>);
 
 impl fmt::Display for Told<'_> {
     fn fmt<W: fmt::Write>(&self, f: &mut fmt::Formatter<W>) -> fmt::Result {
-        match Word::try_from(self.number) {
-            Ok(Word::Send(place, length)) => {
-                let message = Explanation(read(sent(self.octets, place, length)));
-                write!(f, "send {message}")
-            }
-            Ok(Word::Begun(way, cic)) => write!(f, "begun cic={cic} {way}"),
-            Ok(Word::Ended(cause, cic)) => write!(f, "ended cic={cic} by a {cause}"),
-            Ok(Word::Alert(timer, cic)) => write!(f, "alert cic={cic} {timer}"),
-            Err(_) => write!(f, "no word"),
+        match self.0 {
+            Event::Send(octets) => write!(f, "send {}", Explanation(read(octets))),
+            Event::Begun(way, cic) => write!(f, "begun cic={cic} {way}"),
+            Event::Ended(cause, cic) => write!(f, "ended cic={cic} by a {cause}"),
+            Event::Alert(timer, cic) => write!(f, "alert cic={cic} {timer}"),
+            Event::Unknown => write!(f, "no word"),
         }
     }
 }
 
-// The octets of a message to send; none where the output does not have them.
-fn sent(octets: &[u8], place: u16, size: u16) -> &[u8]
-    ensures { place + size ≤ length octets.now → result.now ≡ take size (drop place octets.now) }
-{
-    let start = place as usize;
-    octets.get(start..start + size as usize).unwrap_or(&[])
-}
-
-// A circuit as it stands.
+/// A circuit as it stands.
 #[derive(Clone, Copy)]
 pub struct Standing {
     pub cic: Cic,

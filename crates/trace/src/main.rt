@@ -55,7 +55,7 @@ fn run(rt: &HostRuntime) -> io::Result<()> {
         not_hex: 0,
     };
     // A count, since each loop is proved to end. `split` would not tell whether the last line had its line feed. What
-    // three programs have alike here are two calls of the library.
+    // four programs have alike here are two calls of the library.
     for _ in 0..u64::MAX {
         line.clear();
         if input.read_until(b'\n', &mut line)? == 0 {

@@ -7,6 +7,6 @@ use Rattle.message.proofs.reader.read.Goals as goal
 
 pub returns-clause-format : goal.returns-clause-format
 returns-clause-format c =
-    let v : seen c.read_as.result ≡ decode c.args.octets.now = grind (arith, common_steps) in
+    let v : seen c.read_rest.result ≡ decode c.args.octets.now = grind (arith, common_steps) in
     let o : get_or c.args.octets.now 0 0 < 256 = omega (arith, c.type_inv.octets 0) in
     reads_law _ _ o v

@@ -1,8 +1,8 @@
 use Rattle.std.proofs.Common.{◌≡◌, ℕ, ◌+◌, ◌-◌, length, take, drop, set, refl, ap, ◌∙◌, arith}
 use Rattle.message.specs.Encode.{encode}
 use Rattle.message.specs.Meaning.{meaning}
-use Rattle.told.specs.Words.{number_of}
-use Rattle.told.specs.declared.kinds.Word.TheVariants.{Send}
+use Rattle.words.specs.Words.{number_of}
+use Rattle.words.specs.declared.kinds.Word.TheVariants.{Send}
 use Rattle.supervision.proofs.Extending.{one_sent, written_ok}
 use Rattle.supervision.proofs.Writing.{part_at}
 use Rattle.supervision.proofs.effects.send.Goals as goal

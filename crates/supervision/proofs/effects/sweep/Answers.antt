@@ -6,8 +6,8 @@ use Rattle.circuit.specs.declared.record.Circuit.{Circuit}
 use Rattle.circuit.specs.Orders.{applied}
 use Rattle.circuit.specs.Changes.{quiet}
 use Rattle.circuit.specs.Laws.{told_of}
-use Rattle.status.specs.declared.circuit.Cic.{Cic}
-use Rattle.told.specs.Words.{number_of}
+use Rattle.status.specs.declared.cic.Cic.{Cic}
+use Rattle.words.specs.Words.{number_of}
 use Rattle.supervision.specs.Lending.{over}
 use Rattle.supervision.specs.Moves.{where_named, each_from, told_from}
 use Rattle.supervision.specs.Steps.{touched, rule_by, tally}

@@ -1,9 +1,9 @@
 use Rattle.std.proofs.Common.{◌≡◌, ℕ, [], ◌∷◌, refl, zero-add, arith, subst}
 use Rattle.std.proofs.lemmas.Grind.{common_steps}
 use Rattle.std.proofs.lemmas.List.FromFn.{map-range_with_len_more}
-use Rattle.policy.proofs.Words.{follows_append}
+use Rattle.policy.proofs.Updates.{follows_append}
 use Rattle.policy.specs.Sets.{Follows}
-use Rattle.policy.specs.declared.interface.Word.TheVariants.{Withdraw}
+use Rattle.policy.specs.declared.interface.Update.TheVariants.{Withdraw}
 use Rattle.supervision.specs.Telling.{withdrawals}
 use Rattle.supervision.proofs.opening.withdraw_all.Goals as goal
 

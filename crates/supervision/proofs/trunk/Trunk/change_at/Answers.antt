@@ -1,9 +1,9 @@
 use Rattle.std.proofs.Common.{◌≡◌, eqb, map, length, get_or, set, refl, ap, ◌∙◌, arith}
-use Rattle.status.specs.declared.circuit.Cic.{Cic}
+use Rattle.status.specs.declared.cic.Cic.{Cic}
 use Rattle.circuit.specs.Circuits.{vacant}
 use Rattle.circuit.specs.Orders.{applied}
 use Rattle.circuit.specs.Laws.{told_of}
-use Rattle.told.specs.Words.{number_of}
+use Rattle.words.specs.Words.{number_of}
 use Rattle.supervision.specs.Lending.{over}
 use Rattle.supervision.specs.Trunks.{cic_at}
 use Rattle.supervision.proofs.Extending.{stood_done}

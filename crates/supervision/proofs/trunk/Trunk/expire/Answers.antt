@@ -1,7 +1,7 @@
 use Rattle.std.proofs.Common.{Some, None, ap, ◌∙◌, sym}
 use Rattle.message.specs.declared.kinds.Grouped.TheVariants.{Cgb, Cgu}
-use Rattle.told.specs.Words.{timer_of}
-use Rattle.told.specs.declared.kinds.Timer.TheVariants.{T18, T19, T20, T21, T22, T23}
+use Rattle.words.specs.Words.{timer_of}
+use Rattle.words.specs.declared.kinds.Timer.TheVariants.{T18, T19, T20, T21, T22, T23}
 use Rattle.supervision.specs.Expiring.{alert_at, asked_for, lifting_for, expiring, repeats_group, repeats_reset}
 use Rattle.supervision.specs.Lending.{Lent, lent}
 use Rattle.supervision.specs.Trunks.{first_of}

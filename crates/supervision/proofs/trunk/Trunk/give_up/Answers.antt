@@ -6,7 +6,7 @@ use Rattle.circuit.specs.Laws.{allows}
 use Rattle.circuit.specs.Orders.{applied}
 use Rattle.circuit.specs.declared.record.Reset.TheVariants as reset
 use Rattle.circuit.specs.declared.rules.Rule.TheVariants.{Reset}
-use Rattle.told.specs.declared.kinds.Timer.TheVariants.{T5}
+use Rattle.words.specs.declared.kinds.Timer.TheVariants.{T5}
 use Rattle.supervision.specs.Expiring.{alerting, alert_at, gives_up}
 use Rattle.supervision.specs.Lending.{Lent, lent}
 use Rattle.supervision.specs.Orders.{circuit_of, only, ordered}

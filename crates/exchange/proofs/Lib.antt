@@ -1,0 +1,3 @@
+pub mod Alerting
+pub mod Saying
+pub mod Telling
