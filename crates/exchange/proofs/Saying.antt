@@ -1,5 +1,5 @@
 -- The words of a move, read beside its octets, are what it reports.
-use Rattle.std.proofs.Common.{◌≡◌, ℕ, suc, ◌+◌, ◌<◌, ◌≤◌, List, [], ◌∷◌, ◌++◌, map, drop, length, Some, None, Option, refl, sym, ◌∙◌, arith, nat_le, true, length-append}
+use Rattle.std.proofs.Common.{◌≡◌, ℕ, suc, ◌+◌, ◌<◌, ◌≤◌, List, [], ◌∷◌, ◌++◌, map, drop, length, Some, None, Option, refl, sym, ap, ◌∙◌, arith, nat_le, true, length-append}
 use Rattle.std.specs.List.{flat_map}
 use Rattle.std.proofs.Math.Seq.{take-append_seam, drop-append_seam}
 use Rattle.std.proofs.lemmas.List.{map-append, drop-drop}
@@ -20,8 +20,8 @@ use Rattle.words.specs.declared.kinds.Word.TheVariants as word
 use Rattle.supervision.specs.declared.trunk.Config.{Config}
 use Rattle.supervision.specs.Moves.{Move, told_from, sends_from, alert_word, step_of, words_of, call_words, octets_of}
 use Rattle.supervision.specs.Trunks.{cic_at}
-use Rattle.exchange.specs.Events.{Meant, Send, says}
-use Rattle.exchange.specs.Reports.{call_event, alerts, reports}
+use Rattle.exchange.specs.Events.{Meant, Send, Begun, Ended, says}
+use Rattle.exchange.specs.Reports.{call_events, alerts, reports}
 use Rattle.exchange.proofs.Alerting.{IsOfCic}
 
 -- words that are read so beside all the octets
@@ -31,26 +31,37 @@ Reads all ws ms = map (says all) (map number_of ws) ≡ ms
 both_read : (all : List ℕ) (xs ys : List Word) (ms ns : List Meant) → Reads all xs ms → Reads all ys ns → Reads all (xs ++ ys) (ms ++ ns)
 both_read all xs ys ms ns x y = rw (map-append number_of xs ys, map-append (says all) (map number_of xs) (map number_of ys), x, y) refl
 
-end_read : (all : List ℕ) (c : Cic) (o : Option EndCause) → c.0 < 4096 → Reads all (end_word c o) (map call_event (end_word c o))
+calls_append : (xs ys : List Word) → call_events (xs ++ ys) ≡ call_events xs ++ call_events ys
+calls_append [] ys = refl
+calls_append (word.Begun way cic ∷ xs) ys = ap (λ ms. Begun way cic ∷ ms) (calls_append xs ys)
+calls_append (word.Ended cause cic ∷ xs) ys = ap (λ ms. Ended cause cic ∷ ms) (calls_append xs ys)
+calls_append (word.Send place len ∷ xs) ys = calls_append xs ys
+calls_append (word.Alert timer cic ∷ xs) ys = calls_append xs ys
+
+-- words of calls, each read as it is
+abbrev CallsRead : List ℕ → List Word → Type 0
+CallsRead all ws = Reads all ws (call_events ws)
+
+both_calls : (all : List ℕ) (xs ys : List Word) → CallsRead all xs → CallsRead all ys → CallsRead all (xs ++ ys)
+both_calls all xs ys x y = both_read all xs ys (call_events xs) (call_events ys) x y ∙ sym (calls_append xs ys)
+
+end_read : (all : List ℕ) (c : Cic) (o : Option EndCause) → c.0 < 4096 → CallsRead all (end_word c o)
 end_read all c None a = refl
 end_read all c (Some cause) a = rw (read_back (word.Ended cause c) a) refl
 
-begin_read : (all : List ℕ) (c : Cic) (o : Option Direction) → c.0 < 4096 → Reads all (begin_word c o) (map call_event (begin_word c o))
+begin_read : (all : List ℕ) (c : Cic) (o : Option Direction) → c.0 < 4096 → CallsRead all (begin_word c o)
 begin_read all c None a = refl
 begin_read all c (Some way) a = rw (read_back (word.Begun way c) a) refl
 
-change_read : (all : List ℕ) (c : Cic) (d : Change) → c.0 < 4096 → Reads all (told_of c d) (map call_event (told_of c d))
-change_read all c d a =
-    both_read all (end_word c d.ended) (begin_word c d.begun) (map call_event (end_word c d.ended)) (map call_event (begin_word c d.begun)) (end_read all c d.ended a) (begin_read all c d.begun a)
-    ∙ sym (map-append call_event (end_word c d.ended) (begin_word c d.begun))
-
-calls_read : (all : List ℕ) (t : Config) (f : ℕ → Circuit → Change) (k : ℕ) (cs : List Circuit) → t.first.0 + (k + length cs) ≤ 4096 → Reads all (told_from t f k cs) (map call_event (told_from t f k cs))
+calls_read : (all : List ℕ) (t : Config) (f : ℕ → Circuit → Change) (k : ℕ) (cs : List Circuit) → t.first.0 + (k + length cs) ≤ 4096 → CallsRead all (told_from t f k cs)
 calls_read all t f k [] a = refl
 calls_read all t f k (c ∷ cs) a =
-    let one = told_of (cic_at t k) (f k c) in
-    let others = told_from t f (suc k) cs in
-    both_read all one others (map call_event one) (map call_event others) (change_read all (cic_at t k) (f k c) (omega (arith, a))) (calls_read all t f (suc k) cs (omega (arith, a)))
-    ∙ sym (map-append call_event one others)
+    let cic = cic_at t k in
+    let d = f k c in
+    let small : cic.0 < 4096 = omega (arith, a) in
+    both_calls all (told_of cic d) (told_from t f (suc k) cs)
+    (both_calls all (end_word cic d.ended) (begin_word cic d.begun) (end_read all cic d.ended small) (begin_read all cic d.begun small))
+    (calls_read all t f (suc k) cs (omega (arith, a)))
 
 sends_read : (all : List ℕ) (at : ℕ) (ms : List Msg) → length all < 4096 → at + length (flat_map encode ms) ≡ length all → drop at all ≡ flat_map encode ms → Reads all (sends_from at ms) (map (λ m. Send (encode m)) ms)
 sends_read all at [] small size here = refl

@@ -8,14 +8,15 @@ use Rattle.words.specs.declared.kinds.Word.{Word}
 use Rattle.words.specs.declared.kinds.Word.TheVariants as word
 use Rattle.supervision.specs.declared.trunk.Config.{Config}
 use Rattle.supervision.specs.Moves.{Move, call_words}
-use Rattle.exchange.specs.Events.{Meant, Send, Begun, Ended, Alert, Unknown}
+use Rattle.exchange.specs.Events.{Meant, Send, Begun, Ended, Alert}
 
--- a word of a call
-abbrev pub call_event : Word → Meant
-call_event (word.Send place len) = Unknown
-call_event (word.Begun way cic) = Begun way cic
-call_event (word.Ended cause cic) = Ended cause cic
-call_event (word.Alert timer cic) = Alert timer cic
+-- the words of calls among words, as they read
+abbrev pub call_events : List Word → List Meant
+call_events [] = []
+call_events (word.Begun way cic ∷ ws) = Begun way cic ∷ call_events ws
+call_events (word.Ended cause cic ∷ ws) = Ended cause cic ∷ call_events ws
+call_events (word.Send place len ∷ ws) = call_events ws
+call_events (word.Alert timer cic ∷ ws) = call_events ws
 
 abbrev pub alerts : Option (Timer × Cic) → List Meant
 alerts None = []
@@ -23,4 +24,4 @@ alerts (Some (timer, cic)) = Alert timer cic ∷ []
 
 -- the calls that end and begin, then each message as it is encoded, then the alert
 abbrev pub reports : Config → Move → List Circuit → List Meant
-reports t m table = map call_event (call_words t m table) ++ (map (λ x. Send (encode x)) m.sent ++ alerts m.alert)
+reports t m table = call_events (call_words t m table) ++ (map (λ x. Send (encode x)) m.sent ++ alerts m.alert)

@@ -1,5 +1,6 @@
 pub mod Effect
 pub mod Call
+pub mod Cause
 pub mod Kept
 pub mod Places
 pub mod Meeting

@@ -5,6 +5,7 @@
 ghost use Rattle.laws.specs.Addressing.{ExpiriesAccepted, MessagesAccepted, OrdersAccepted};
 ghost use Rattle.laws.specs.Blocks.{AllBlocksMove};
 ghost use Rattle.laws.specs.Calls.{CallsLive, CallsDecided, CausesKept, UnequippedStay};
+ghost use Rattle.laws.specs.Causes.{CausesRead};
 ghost use Rattle.laws.specs.Naming.{StatusesTell, GroupsName};
 ghost use Rattle.laws.specs.Octets.{SendsCut, WordsFollow};
 ghost use Rattle.laws.specs.Sending.{OrdersSend, MessagesAnswered, ExpiriesRepeat};
@@ -27,6 +28,11 @@ pub fn blocks_move()
 /// What our orders send.
 pub fn orders_send()
     ensures { OrdersSend }
+{}
+
+/// Whoever reads our REL gets the location and the value that the release was ordered with.
+pub fn causes_read()
+    ensures { CausesRead }
 {}
 
 /// An order is accepted exactly where its arguments, its circuits and their states allow it.
