@@ -67,4 +67,3 @@ order_keeps (rule.Release x) c h = search arith
 order_keeps (rule.Block why) c h = search arith
 order_keeps (rule.Unblock why) c h = search arith
 order_keeps (rule.Reset how) c h = search arith
-order_keeps (rule.Signal s) c h = signal_keeps s c

@@ -48,11 +48,10 @@ allows_reset reset.None now = false
 allows_reset reset.Single now = not (is_group now)
 allows_reset reset.Group now = true
 
--- which circuits an order may name; no message is refused for the state of a circuit
+-- which circuits an order may name
 abbrev pub allows : Rule → Circuit → Bool
 allows rule.Seize c = is_open c
 allows (rule.Release cause) c = is_connected c.call
 allows (rule.Block why) c = not (is_waiting c.reset)
 allows (rule.Unblock why) c = not (is_waiting c.reset)
 allows (rule.Reset how) c = allows_reset how c.reset
-allows (rule.Signal s) c = true

@@ -13,7 +13,6 @@ use Rattle.circuit.specs.declared.rules.Rule.TheVariants as rule
 use Rattle.words.specs.declared.kinds.Direction.TheVariants.{Outgoing}
 use Rattle.words.specs.declared.kinds.EndCause.TheVariants as end
 use Rattle.circuit.specs.Circuits.{block_of, with_block, no_local, no_far}
-use Rattle.circuit.specs.Signals.{on_signal}
 use Rattle.circuit.specs.Changes.{with_call, with_locals, with_fars, with_reset, with_cause, change, quiet, ending, under_block}
 
 -- seizing: begun, calling
@@ -43,11 +42,10 @@ on_unblock why c = quiet (with_locals (with_block why (lifted (block_of why c.lo
 abbrev pub on_reset : Reset → Circuit → Change
 on_reset how c = ending end.Reset (with_reset how (with_fars no_far (with_locals no_local c)))
 
--- what is done to a circuit, by an order or by a message
+-- what an order does to a circuit
 abbrev pub applied : Rule → Circuit → Change
 applied rule.Seize c = on_seize c
 applied (rule.Release cause) c = on_release cause c
 applied (rule.Block why) c = on_block why c
 applied (rule.Unblock why) c = on_unblock why c
 applied (rule.Reset how) c = on_reset how c
-applied (rule.Signal s) c = on_signal s c

@@ -1,11 +1,10 @@
-// What orders and messages do to one circuit.
+// What orders do to one circuit.
 ghost use Rattle.std.specs.Prelude.{◌≡◌, true};
 ghost use Rattle.circuit.specs.Changes.{quiet, ending, under_block};
 ghost use Rattle.circuit.specs.Laws.{Keeps, allows};
 ghost use Rattle.circuit.specs.Orders.{on_seize, on_release, on_block, on_unblock, on_reset, applied};
 
 use crate::record::{Call, CauseOctets, Circuit, FarBlocks, LocalBlock, LocalBlocks, Reset};
-use crate::signals::Signal;
 use message::BlockType;
 use words::{Direction, EndCause};
 
@@ -18,7 +17,7 @@ pub struct Change {
     pub begun: Option<Direction>,
 }
 
-/// What an order or a message does to each circuit that it names.
+/// What an order does to each circuit that it names.
 #[derive(Clone, Copy)]
 pub enum Rule {
     Seize,
@@ -27,7 +26,6 @@ pub enum Rule {
     Unblock(BlockType),
     /// the reset that waits then, which is never none
     Reset(Reset),
-    Signal(Signal),
 }
 
 impl Change {
@@ -107,10 +105,10 @@ impl Circuit {
     fn unblocked(self, why: BlockType) -> Change
         ensures { result ≡ on_unblock why self }
     {
-        let local = match self.local.of(why) {
-            LocalBlock::None => self.local,
-            _ => self.local.with(why, LocalBlock::Lifting),
-        };
+        if self.local.of(why).is_none() {
+            return Change::quiet(self);
+        }
+        let local = self.local.with(why, LocalBlock::Lifting);
         Change::quiet(Circuit { local, ..self })
     }
 
@@ -142,7 +140,7 @@ impl Rule {
             Rule::Block(_) | Rule::Unblock(_) => !circuit.reset.is_waiting(),
             Rule::Reset(Reset::None) => false,
             Rule::Reset(Reset::Single) => !circuit.reset.is_group(),
-            Rule::Reset(Reset::Group) | Rule::Signal(_) => true,
+            Rule::Reset(Reset::Group) => true,
         }
     }
 
@@ -158,7 +156,6 @@ impl Rule {
             Rule::Block(why) => circuit.blocked(why),
             Rule::Unblock(why) => circuit.unblocked(why),
             Rule::Reset(reset) => circuit.cleared(reset),
-            Rule::Signal(signal) => signal.apply(circuit),
         }
     }
 }

@@ -1,7 +1,8 @@
 // What the messages of the far exchange do to one circuit.
 ghost use Rattle.std.specs.Prelude.{◌≡◌};
 ghost use Rattle.circuit.specs.Circuits.{is_set, is_calling, is_single};
-ghost use Rattle.circuit.specs.Signals.{on_iam, on_progress, on_rel, on_rlc, on_far_block, on_far_unblock, acknowledged, on_block_ack, asked_again, unlocked, on_unblock_ack, on_rsc, on_grs, on_gra, on_signal, passes_iam};
+ghost use Rattle.circuit.specs.Laws.{Keeps};
+ghost use Rattle.circuit.specs.Signals.{on_iam, on_progress, on_rel, on_rlc, on_far_block, on_far_unblock, on_block_ack, asked_again, unlocked, on_unblock_ack, on_rsc, on_grs, on_gra, on_signal, passes_iam};
 
 use crate::record::{Call, CauseOctets, Circuit, FarBlocks, LocalBlock, LocalBlocks, Reset};
 use crate::rules::Change;
@@ -32,17 +33,6 @@ pub enum Signal {
 }
 
 impl LocalBlock {
-    // What an acknowledgement of the block makes of it.
-    #[inline(always)]
-    fn acknowledged(self) -> LocalBlock
-        ensures { result ≡ acknowledged self }
-    {
-        match self {
-            LocalBlock::Asked => LocalBlock::Set,
-            other => other,
-        }
-    }
-
     // A block that stands is asked for once more.
     #[inline(always)]
     fn asked_again(self) -> LocalBlock
@@ -82,8 +72,9 @@ impl Circuit {
             }
     }
 
+    /// What IAM makes of the circuit; `controlled` is whether we control it.
     #[inline(always)]
-    fn called(self, controlled: bool) -> Change
+    pub fn called(self, controlled: bool) -> Change
         ensures { result ≡ on_iam controlled self }
     {
         if self.passes_iam(controlled) {
@@ -101,8 +92,9 @@ impl Circuit {
         }
     }
 
+    /// What ACM, CON, ANM and CPG make of it.
     #[inline(always)]
-    fn progressed(self) -> Change
+    pub fn progressed(self) -> Change
         ensures { result ≡ on_progress self }
     {
         let call = match self.call {
@@ -112,8 +104,9 @@ impl Circuit {
         Change::quiet(Circuit { call, ..self })
     }
 
+    /// What REL makes of it.
     #[inline(always)]
-    fn far_released(self) -> Change
+    pub fn far_released(self) -> Change
         ensures { result ≡ on_rel self }
     {
         if !self.call.is_connected() {
@@ -122,8 +115,9 @@ impl Circuit {
         Change::ending(EndCause::ReleaseReceived, self)
     }
 
+    /// What RLC makes of it.
     #[inline(always)]
-    fn completed(self) -> Change
+    pub fn completed(self) -> Change
         ensures { result ≡ on_rlc self }
     {
         if self.reset == Reset::Single {
@@ -143,32 +137,39 @@ impl Circuit {
         }
     }
 
+    /// What BLO makes of it, and CGB for its type.
     #[inline(always)]
-    fn far_blocked(self, why: BlockType) -> Change
+    pub fn far_blocked(self, why: BlockType) -> Change
         ensures { result ≡ on_far_block why self }
     {
         let far = self.far.with(why, true);
         Change::under_block(why, Circuit { far, ..self })
     }
 
+    /// What UBL makes of it, and CGU for its type.
     #[inline(always)]
-    fn far_unblocked(self, why: BlockType) -> Change
+    pub fn far_unblocked(self, why: BlockType) -> Change
         ensures { result ≡ on_far_unblock why self }
     {
         let far = self.far.with(why, false);
         Change::quiet(Circuit { far, ..self })
     }
 
+    /// What BLA makes of it, and CGBA for its type.
     #[inline(always)]
-    fn block_acknowledged(self, why: BlockType) -> Change
+    pub fn block_acknowledged(self, why: BlockType) -> Change
         ensures { result ≡ on_block_ack why self }
     {
-        let local = self.local.with(why, self.local.of(why).acknowledged());
+        if self.local.of(why) != LocalBlock::Asked {
+            return Change::quiet(self);
+        }
+        let local = self.local.with(why, LocalBlock::Set);
         Change::quiet(Circuit { local, ..self })
     }
 
+    /// What UBA makes of it, and CGUA for its type.
     #[inline(always)]
-    fn unblock_acknowledged(self, why: BlockType) -> Change
+    pub fn unblock_acknowledged(self, why: BlockType) -> Change
         ensures { result ≡ on_unblock_ack why self }
     {
         let local = self.local.with(why, self.local.of(why).unlocked());
@@ -215,9 +216,10 @@ impl Circuit {
 
 impl Signal {
     /// What the message makes of a circuit.
-    #[inline]
+    #[inline(always)]
     pub fn apply(self, circuit: Circuit) -> Change
-        ensures { result ≡ on_signal self circuit }
+        ensures value { result ≡ on_signal self circuit }
+        ensures keeps { Keeps circuit result }
     {
         match self {
             Signal::Iam(controlled) => circuit.called(controlled),

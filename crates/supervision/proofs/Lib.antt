@@ -24,5 +24,6 @@ pub mod Stepping
 pub mod Systems
 pub mod Touching
 pub mod Turning
+pub mod Walking
 pub mod Writable
 pub mod Writing

@@ -1,47 +1,44 @@
 -- What is found of the circuits that a status names.
-use Rattle.std.proofs.Common.{◌≡◌, ℕ, ◌+◌, ◌-◌, ◌<◌, Bool, true, false, not, ◌&&◌, List, length, get_or, take, drop, refl, ap, ◌∙◌, zero-add, length-drop, arith}
-use Rattle.std.proofs.lemmas.List.{get_or-drop, get_or-take, length-take-le}
-use Rattle.std.proofs.lemmas.List.FromFn.{get_or-enumerate_from, length-enumerate_from}
-use Rattle.std.specs.Bool.{MatchBool}
-use Rattle.std.specs.List.{AllWithin, HoldsAt, enumerate_from}
-use Rattle.status.specs.Bits.{is_named}
-use Rattle.circuit.specs.Circuits.{vacant}
+use Rattle.std.proofs.Common.{◌≡◌, ℕ, ◌+◌, ◌<◌, ◌≤◌, Bool, true, false, not, ◌&&◌, List, length, refl, ⊎_elim, arith}
+use Rattle.std.proofs.lemmas.Bool.{cases_lt, cases_eq}
 use Rattle.circuit.specs.declared.record.Circuit.{Circuit}
+use Rattle.supervision.specs.declared.slots.Slots.{Slots}
 use Rattle.supervision.specs.Moves.{some_from}
-use Rattle.supervision.specs.Trunks.{covers}
+use Rattle.supervision.specs.Steps.{named_by}
+use Rattle.supervision.specs.Trunks.{placed}
 use Rattle.supervision.proofs.Naming.{covers_in, covers_none}
 use Rattle.supervision.proofs.Some.{none, some}
 
--- whether the item is a named circuit that does not pass
-abbrev pub FailureIs : ℕ → List ℕ → (Circuit → Bool) → Bool → ℕ × Circuit → Type 0
-FailureIs r s p b x = (is_named r s x.0 && not (p x.1)) ≡ b
+-- of the first n circuits of a range, each that is named passes
+abbrev pub PassBelow : Slots → (Circuit → Bool) → List Circuit → ℕ → Type 0
+PassBelow s p T n = (j : ℕ) → j < n → (named_by s (s.first.0 + j) && not (p (placed T (s.first.0 + j)))) ≡ false
 
-item : (first r : ℕ) (T : List Circuit) (n : ℕ) → first + r < length T → n < r + 1
-    → get_or (enumerate_from 0 (take (first + r + 1 - first) (drop first T))) n (0, vacant) ≡ (n, get_or T (first + n) vacant)
-item first r T n l h =
-    let count : first + r + 1 - first ≡ r + 1 = omega arith in
-    let size : length (take (r + 1) (drop first T)) ≡ r + 1 = length-take-le (r + 1) (drop first T) (omega (arith, length-drop first T)) in
-    rw count
-    (get_or-enumerate_from 0 (take (r + 1) (drop first T)) n (0, vacant) (omega arith)
-    ∙ rw (zero-add n) (ap (λ (c : Circuit). (n, c)) (get_or-take (r + 1) (drop first T) n vacant h ∙ get_or-drop first T n vacant)))
+-- one more
+pub pass_more : (s : Slots) (p : Circuit → Bool) (T : List Circuit) (n : ℕ)
+    → PassBelow s p T n → (named_by s (s.first.0 + n) && not (p (placed T (s.first.0 + n)))) ≡ false → PassBelow s p T (n + 1)
+pass_more s p T n h e j l = ⊎_elim
+    (λ (q : j ≡ n). rw q e)
+    (λ (q : j ≡ n → ⊥). h j (⊎_elim (λ (y : j < n). y) (λ (y : n ≤ j). absurd (q (omega arith))) (cases_lt j n)))
+    (cases_eq j n)
 
-items : (first r : ℕ) (T : List Circuit) → first + r < length T
-    → length (enumerate_from 0 (take (first + r + 1 - first) (drop first T))) ≡ r + 1
-items first r T l =
-    let count : first + r + 1 - first ≡ r + 1 = omega arith in
-    rw count (length-enumerate_from 0 (take (r + 1) (drop first T)) ∙ length-take-le (r + 1) (drop first T) (omega (arith, length-drop first T)))
+-- and those that are not named
+pub pass_quiet : (s : Slots) (p : Circuit → Bool) (T : List Circuit) (n m : ℕ)
+    → PassBelow s p T n → ((j : ℕ) → n ≤ j → j < m → named_by s (s.first.0 + j) ≡ false) → PassBelow s p T m
+pass_quiet s p T n m h q j l = ⊎_elim
+    (λ (b : j < n). h j b)
+    (λ (b : n ≤ j). rw (q j b l) refl)
+    (cases_lt j n)
 
-pub all_named : (first r : ℕ) (s : List ℕ) (p : Circuit → Bool) (T : List Circuit) (b : Bool)
-    → first + r < length T
-    → MatchBool b
-    (AllWithin (FailureIs r s p false) (enumerate_from 0 (take (first + r + 1 - first) (drop first T))) 0 (length (enumerate_from 0 (take (first + r + 1 - first) (drop first T)))))
-    ((k : ℕ) × (k < length (enumerate_from 0 (take (first + r + 1 - first) (drop first T)))) × HoldsAt (FailureIs r s p true) (enumerate_from 0 (take (first + r + 1 - first) (drop first T))) k)
-    → b ≡ not (some_from (λ k c. covers first r s k && not (p c)) 0 T)
-all_named first r s p T true l h =
-    let size = items first r T l in
-    rw (none (λ k c. covers first r s k && not (p c)) T
-    (λ j a. covers_none first r s (λ k. not (p (get_or T k vacant))) (λ n m. rw (item first r T n l m) at (h n (0, vacant) (omega arith) (omega arith))) j)) refl
-all_named first r s p T false l (k, below, h) =
-    let size = items first r T l in
-    let here = rw (item first r T k l (omega arith)) at (h (0, vacant)) in
-    rw (some (λ k c. covers first r s k && not (p c)) T (first + k) (omega arith) (rw (covers_in first r s k) here)) refl
+-- all of them
+pub pass_all : (s : Slots) (p : Circuit → Bool) (T : List Circuit)
+    → PassBelow s p T (s.group.range.0 + 1) → some_from (λ k c. named_by s k && not (p c)) 0 T ≡ false
+pass_all s p T h =
+    none (λ k c. named_by s k && not (p c)) T
+    (λ j l. covers_none s.first.0 s.group.range.0 s.group.status.now (λ k. not (p (placed T k)))
+    (λ n m. rw (← covers_in s.first.0 s.group.range.0 s.group.status.now n) (h n m)) j)
+
+-- one that does not
+pub pass_not : (s : Slots) (p : Circuit → Bool) (T : List Circuit) (n : ℕ)
+    → s.first.0 + n < length T → named_by s (s.first.0 + n) ≡ true → p (placed T (s.first.0 + n)) ≡ false
+    → some_from (λ k c. named_by s k && not (p c)) 0 T ≡ true
+pass_not s p T n l e f = some (λ k c. named_by s k && not (p c)) T (s.first.0 + n) l (rw (e, f) refl)

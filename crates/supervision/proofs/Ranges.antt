@@ -1,5 +1,5 @@
 -- Messages for a range: what is answered, what is due after their effect, and their whole outcome.
-use Rattle.std.proofs.Common.{◌≡◌, ℕ, ◌+◌, ◌-◌, ◌*◌, ◌<◌, ◌≤◌, Bool, true, false, cond, not, ◌&&◌, leb, ltb, List, [], ◌∷◌, length, Some, None, Ok, Err, Option, Result, refl, ap, ◌∙◌, subst, ⊎_elim, arith}
+use Rattle.std.proofs.Common.{◌≡◌, ℕ, ◌+◌, ◌-◌, ◌*◌, ◌<◌, ◌≤◌, Bool, true, false, cond, not, ◌&&◌, leb, ltb, List, [], ◌∷◌, length, Some, None, Ok, Err, Option, Result, refl, ap, ◌∙◌, subst, ◌⊎◌, ⊎_elim, arith}
 use Rattle.std.proofs.lemmas.Bool.{cases_Bool, leb-true, le-leb, lt-ltb, and_parts}
 use Rattle.status.specs.declared.cic.Cic.{Cic}
 use Rattle.policy.specs.declared.interface.Place.{Place}
@@ -8,16 +8,13 @@ use Rattle.message.specs.Msg.{Msg, call, grouped}
 use Rattle.message.specs.declared.kinds.BlockType.{BlockType}
 use Rattle.message.specs.declared.kinds.BlockType.TheVariants.{Maintenance, Hardware}
 use Rattle.message.specs.declared.kinds.CallKind.{CallKind}
-use Rattle.message.specs.declared.kinds.CallKind.TheVariants.{Iam, Acm, Con, Anm, Cpg}
+use Rattle.message.specs.declared.kinds.CallKind.TheVariants.{Acm, Con, Anm, Cpg}
 use Rattle.message.specs.declared.kinds.Grouped.{Grouped}
 use Rattle.message.specs.declared.kinds.Grouped.TheVariants.{Cgb, Cgu, Cgba, Cgua}
 use Rattle.circuit.specs.Circuits.{block_of, is_none, is_standing}
-use Rattle.circuit.specs.Orders.{applied}
 use Rattle.circuit.specs.declared.record.Circuit.{Circuit}
-use Rattle.circuit.specs.declared.rules.Rule.{Rule}
-use Rattle.circuit.specs.declared.rules.Rule.TheVariants.{Signal}
 use Rattle.circuit.specs.declared.signals.Signal.{Signal as Signals}
-use Rattle.circuit.specs.Signals.{on_block_ack, on_unblock_ack, on_rsc, on_grs}
+use Rattle.circuit.specs.Signals.{on_signal, on_block_ack, on_progress, on_unblock_ack, on_rsc, on_grs}
 use Rattle.circuit.proofs.Keeping.{signal_keeps}
 use Rattle.status.specs.declared.group.Group.{Group}
 use Rattle.refusal.specs.declared.reasons.Refusal.{Refusal}
@@ -26,7 +23,7 @@ use Rattle.refusal.specs.Refusals.{unless}
 use Rattle.supervision.specs.declared.due.Condition.{Condition}
 use Rattle.supervision.specs.declared.due.Condition.TheVariants.{Unblocked, Standing}
 use Rattle.supervision.specs.declared.due.Due.{Due}
-use Rattle.supervision.specs.declared.slots.Effect.TheVariants.{Marked}
+use Rattle.supervision.specs.declared.slots.Effect.TheVariants.{Heard}
 use Rattle.supervision.specs.declared.slots.Slots.{Slots}
 use Rattle.supervision.specs.declared.trunk.Config.{Config}
 use Rattle.supervision.specs.Due.{holds, is_due}
@@ -34,10 +31,10 @@ use Rattle.supervision.specs.Groups.{groups}
 use Rattle.supervision.specs.Laws.{Outcome}
 use Rattle.supervision.specs.Lending.{Lent, Performed}
 use Rattle.supervision.specs.Moves.{Move, some_from, table_of}
-use Rattle.supervision.specs.Receiving.{as_cic, moving, to_one, is_range, marked, to_range, heard}
-use Rattle.supervision.specs.Replies.{call_signal, reply_to, signal_of}
+use Rattle.supervision.specs.Receiving.{moving, to_one, is_range, marked, to_range, heard}
+use Rattle.supervision.specs.Replies.{signal_of}
 use Rattle.supervision.specs.Steps.{touched, sending}
-use Rattle.supervision.specs.Trunks.{controls, places, place_of, placed}
+use Rattle.supervision.specs.Trunks.{places, place_of, placed}
 use Rattle.supervision.proofs.Hearing.{heard_allowed}
 use Rattle.supervision.proofs.Keeping.{outcome_of, table_at}
 use Rattle.supervision.proofs.Allowing.{past_both}
@@ -83,7 +80,7 @@ group_answer t c Cgba why r s T = groups t Cgu why (λ k x. marked t c r s k && 
 group_answer t c Cgua why r s T = groups t Cgb why (λ k x. marked t c r s k && is_standing (block_of why x.local)) T
 
 abbrev pub group_move : Config → ℕ → Grouped → BlockType → ℕ → List ℕ → List Circuit → Move
-group_move t c what why r s T = moving (marked t c r s) (λ _. applied (Signal (signal_of what why))) (group_answer t c what why r s T)
+group_move t c what why r s T = moving (marked t c r s) (λ _. on_signal (signal_of what why)) (group_answer t c what why r s T)
 
 pub group_heard : (t : Config) (c : ℕ) (what : Grouped) (why : BlockType) (r : ℕ) (s : List ℕ) (T : List Circuit)
     → heard t (grouped c what (indicator_of why) r s) T ≡ to_range t c r s (group_move t c what why r s T) T
@@ -128,17 +125,17 @@ marked_due t c r s T k b none l = ⊎_elim
     (cases_Bool (marked t c r s k))
 
 -- what the circuits of a group message are asked for after its effect is what they were asked for before
-pub due_group : (t : Config) (c : ℕ) (g : Group) (rule : Rule) (cond : Condition) (ask : Grouped) (why : BlockType) (T U : List Circuit)
-    → U ≡ table_of (moving (marked t c g.range.0 g.status.now) (λ _. applied rule) []) T
-    → ((x : Circuit) → (applied rule x).circuit.equipped ≡ x.equipped)
-    → ((x : Circuit) → holds cond (applied rule x).circuit ≡ holds cond x)
+pub due_group : (t : Config) (c : ℕ) (g : Group) (s : Signals) (cond : Condition) (ask : Grouped) (why : BlockType) (T U : List Circuit)
+    → U ≡ table_of (moving (marked t c g.range.0 g.status.now) (λ _. on_signal s) []) T
+    → ((x : Circuit) → (on_signal s x).circuit.equipped ≡ x.equipped)
+    → ((x : Circuit) → holds cond (on_signal s x).circuit ≡ holds cond x)
     → some_from (λ j x. marked t c g.range.0 g.status.now j && not x.equipped) 0 T ≡ false
     → c - t.first.0 + g.range.0 < length T
-    → groups t ask why (is_due (record { slots = record { first = record { 0 = c - t.first.0 }; group = g }; effect = Marked rule; condition = cond })) U
+    → groups t ask why (is_due (record { slots = record { first = record { 0 = c - t.first.0 }; group = g }; effect = Heard s; condition = cond })) U
     ≡ groups t ask why (λ k x. marked t c g.range.0 g.status.now k && holds cond x) T
-due_group t c g rule cond ask why T U u e h none l =
-    let due : Due = record { slots = record { first = record { 0 = c - t.first.0 }; group = g }; effect = Marked rule; condition = cond } in
-    let m = moving (marked t c g.range.0 g.status.now) (λ _. applied rule) [] in
+due_group t c g s cond ask why T U u e h none l =
+    let due : Due = record { slots = record { first = record { 0 = c - t.first.0 }; group = g }; effect = Heard s; condition = cond } in
+    let m = moving (marked t c g.range.0 g.status.now) (λ _. on_signal s) [] in
     groups_same t ask why (is_due due) (λ k x. marked t c g.range.0 g.status.now k && holds cond x) U T
     (λ k. ap (λ (V : List Circuit). is_due due k (placed V k)) u ∙ due_after m due T (λ _. e) (λ _. h) k
     ∙ marked_due t c g.range.0 g.status.now T k (holds cond (placed T k)) none l)
@@ -149,13 +146,13 @@ pub group_outcome : (t : Config) (c : ℕ) (what : Grouped) (why : BlockType) (r
     → some_from (λ k x. marked t c r s k && not x.equipped) 0 before.table ≡ false
     → length before.table ≤ length before.held
     → ms ≡ group_answer t c what why r s before.table
-    → Performed t (sending ms (moving (marked t c r s) (λ _. applied (Signal (signal_of what why))) [])) n before after
+    → Performed t (sending ms (moving (marked t c r s) (λ _. on_signal (signal_of what why)) [])) n before after
     → Outcome t (λ (b : Lent). heard t (grouped c what (indicator_of why) r s) b.table) (Ok n) before after
 group_outcome t c what why r s ms n before after a b l e p =
     range_outcome t (grouped c what (indicator_of why) r s) c r s (group_move t c what why r s before.table) n before after (group_heard t c what why r s before.table) a b l
-    (subst (λ (x : List Msg). Performed t (sending x (moving (marked t c r s) (λ _. applied (Signal (signal_of what why))) [])) n before after) e p)
+    (subst (λ (x : List Msg). Performed t (sending x (moving (marked t c r s) (λ _. on_signal (signal_of what why)) [])) n before after) e p)
 
-pub signal_equips : (s : Signals) (x : Circuit) → (applied (Signal s) x).circuit.equipped ≡ x.equipped
+pub signal_equips : (s : Signals) (x : Circuit) → (on_signal s x).circuit.equipped ≡ x.equipped
 signal_equips s x = (signal_keeps s x).equipped
 
 pub ack_unblocked : (why : BlockType) (x : Circuit) → holds (Unblocked why) (on_block_ack why x).circuit ≡ holds (Unblocked why) x
@@ -171,15 +168,13 @@ reset_stands why x = search arith
 pub group_reset_stands : (why : BlockType) (x : Circuit) → holds (Standing why) (on_grs x).circuit ≡ holds (Standing why) x
 group_reset_stands why x = search arith
 
--- a call message is one for one circuit
-pub call_outcome : (t : Config) (c : ℕ) (kind : CallKind) (body : List ℕ) (r : Result (ℕ × ℕ) Refusal) (before after : Lent)
-    → Outcome t (λ (b : Lent). to_one t c (applied (Signal (call_signal kind (controls t (as_cic c))))) (reply_to c (call_signal kind (controls t (as_cic c)))) b.table) r before after
+-- a call message that shows progress is one for one circuit
+pub progress_outcome : (t : Config) (c : ℕ) (kind : CallKind) (body : List ℕ) (r : Result (ℕ × ℕ) Refusal) (before after : Lent)
+    → (kind ≡ Acm) ⊎ ((kind ≡ Con) ⊎ ((kind ≡ Anm) ⊎ (kind ≡ Cpg)))
+    → Outcome t (λ (b : Lent). to_one t c on_progress (λ _. []) b.table) r before after
     → Outcome t (λ (b : Lent). heard t (call c kind body) b.table) r before after
-call_outcome t c Iam body r before after h = h
-call_outcome t c Acm body r before after h = h
-call_outcome t c Con body r before after h = h
-call_outcome t c Anm body r before after h = h
-call_outcome t c Cpg body r before after h = h
+progress_outcome t c kind body r before after is h =
+    ⊎_elim (λ e. rw e h) (⊎_elim (λ e. rw e h) (⊎_elim (λ e. rw e h) (λ e. rw e h))) is
 
 -- a range that is not found is refused
 pub not_spanned : (a b : Bool) (e : Refusal) (x : Slots) (m : Move) → ◌≡◌ {A = Result Slots Refusal} (Err e) (unless a Address (unless b Address (Ok x))) → unless a Address (unless b Address (Ok m)) ≡ Err e

@@ -1,20 +1,19 @@
 -- Resets of the far exchange: which places a range is, what is asked again, and the status that GRA shows.
-use Rattle.std.proofs.Common.{◌≡◌, ℕ, zero, suc, ◌+◌, ◌-◌, ◌*◌, ◌/◌, ◌%◌, ◌^◌, ◌<◌, ◌≤◌, Bool, true, false, cond, ◌&&◌, leb, eqb, List, [], ◌∷◌, take, None, sym, refl, ap, ◌∙◌, ⊎_elim, add-zero, arith}
+use Rattle.std.proofs.Common.{◌≡◌, ℕ, zero, suc, ◌+◌, ◌-◌, ◌*◌, ◌/◌, ◌%◌, ◌^◌, ◌<◌, ◌≤◌, Bool, true, false, cond, ◌&&◌, leb, ltb, List, [], ◌∷◌, take, None, sym, refl, ap, ◌∙◌, ⊎_elim, add-zero, arith}
 use mathlib.Core.Path.{fun_ext}
 use Rattle.std.proofs.Math.Nat.{add_comm}
 use Rattle.std.proofs.lemmas.Nat.{pow-add, shr_high, mod_low}
 use Rattle.message.proofs.RoundTrip.{may_write}
-use Rattle.std.proofs.lemmas.Bool.{cases_lt, cases_eq, le-leb, lt-leb, leb-true, and_parts, eq-eqb, ne_eqb}
+use Rattle.std.proofs.lemmas.Bool.{and_left, and_parts, and_right, cases_lt, eq-eqb, le-leb, leb-true, lt-leb, ne_eqb}
 use Rattle.status.specs.Bits.{octets_for}
 use Rattle.message.specs.Encode.{refusal_of}
 use Rattle.message.specs.Msg.{group_reset}
 use Rattle.message.specs.declared.kinds.BlockType.{BlockType}
 use Rattle.message.specs.declared.kinds.BlockType.TheVariants.{Maintenance, Hardware}
 use Rattle.message.specs.declared.kinds.Grouped.TheVariants.{Cgb}
-use Rattle.circuit.proofs.Keeping.{rsc_keeps, grs_keeps}
+use Rattle.circuit.proofs.Keeping.{grs_keeps}
 use Rattle.circuit.specs.Circuits.{block_of, is_standing}
-use Rattle.circuit.specs.Signals.{on_rsc, on_grs}
-use Rattle.circuit.specs.declared.rules.Rule.TheVariants.{Signal}
+use Rattle.circuit.specs.Signals.{on_grs}
 use Rattle.circuit.specs.declared.signals.Signal.TheVariants as signal
 use Rattle.circuit.specs.declared.record.Circuit.{Circuit}
 use Rattle.supervision.specs.declared.due.Condition.TheVariants.{Standing}
@@ -23,15 +22,15 @@ use Rattle.supervision.specs.declared.slots.Effect.TheVariants.{Every}
 use Rattle.supervision.specs.declared.slots.Slots.{Slots}
 use Rattle.supervision.specs.declared.trunk.Config.{Config}
 use Rattle.supervision.specs.Due.{is_due, due_bits}
-use Rattle.supervision.specs.Groups.{bits_below, group_for, groups, status_from, status_by}
+use Rattle.supervision.specs.Groups.{mask_by, bits_below, groups, status_from, status_by}
 use Rattle.supervision.specs.Moves.{table_of}
 use Rattle.supervision.specs.Orders.{circuit_of, only}
-use Rattle.supervision.specs.Receiving.{as_cic, moving, in_range, ask_again, shows}
+use Rattle.supervision.specs.Receiving.{as_cic, moving, in_range, shows}
 use Rattle.supervision.specs.Steps.{spanned}
 use Rattle.supervision.specs.Trunks.{placed}
-use Rattle.supervision.proofs.Bits.{bits_fit, bits_same}
-use Rattle.supervision.proofs.Ranges.{due_after, reset_stands, group_reset_stands}
-use Rattle.supervision.proofs.Systems.{group_same, groups_same}
+use Rattle.supervision.proofs.Bits.{bits_one, bits_fit, bits_same}
+use Rattle.supervision.proofs.Ranges.{due_after, group_reset_stands}
+use Rattle.supervision.proofs.Systems.{groups_same}
 
 -- the places of slots are those of the range
 spans_at : (f r k : ℕ) → (leb f k && leb (k - f) r) ≡ (leb f k && leb k (f + r))
@@ -115,37 +114,17 @@ reset_limits c r e =
     let lim = and_parts (leb 1 r) (leb r 31) w.1 in
     (w.0, leb-true 1 r lim.0, leb-true r 31 lim.1)
 
--- a range of one circuit
-pub one_place : (p k : ℕ) → (leb p k && leb (k - p) 0) ≡ eqb k p
-one_place p k = ⊎_elim
-    (λ (e : k ≡ p). rw (le-leb p k (omega (arith, e)), le-leb (k - p) 0 (omega (arith, e)), eq-eqb k p e) refl)
-    (λ (n : k ≡ p → ⊥). ⊎_elim
-    (λ (l : k < p). rw (lt-leb p k l, ne_eqb k p n) refl)
-    (λ (l : p ≤ k).
-    let h : 0 < k - p = ⊎_elim (λ (y : p < k). omega (arith, y)) (λ (y : k ≤ p). absurd (n (omega (arith, l, y)))) (cases_lt p k) in
-    rw (le-leb p k l, lt-leb (k - p) 0 h, ne_eqb k p n) refl)
-    (cases_lt k p))
-    (cases_eq k p)
-
--- the hardware block that is asked again after an RSC
-pub asked_after : (t : Config) (c : ℕ) (s : Slots) (T U : List Circuit)
-    → s.first.0 ≡ c - t.first.0
-    → s.group.range.0 ≡ 0
-    → (placed T (c - t.first.0)).equipped ≡ true
-    → U ≡ table_of (moving (only t (as_cic c)) (λ _. on_rsc) []) T
-    → group_for t Cgb Hardware (is_due (record { slots = s; effect = Every (Signal signal.Rsc); condition = Standing Hardware })) ((c - t.first.0) / 32) U ≡ ask_again t c T
-asked_after t c s T U f r q u =
-    let due : Due = record { slots = s; effect = Every (Signal signal.Rsc); condition = Standing Hardware } in
-    let m = moving (only t (as_cic c)) (λ _. on_rsc) [] in
-    group_same t Cgb Hardware (is_due due) (λ k x. only t (as_cic c) k && is_standing x.local.hardware) ((c - t.first.0) / 32) U T
-    (λ k _. ap (λ (V : List Circuit). is_due due k (placed V k)) u ∙ due_after m due T (λ _ x. (rsc_keeps x).equipped) (λ _ x. reset_stands Hardware x) k
-    ∙ rw (f, r, one_place (c - t.first.0) k) (here k (is_standing (placed T k).local.hardware)))
-  where
-    here : (k : ℕ) (b : Bool) → (eqb k (c - t.first.0) && ((placed T k).equipped && b)) ≡ (eqb k (c - t.first.0) && b)
-    here k b = ⊎_elim
-        (λ (e : k ≡ c - t.first.0). let z : (placed T k).equipped ≡ true = rw e q in rw z refl)
-        (λ (n : k ≡ c - t.first.0 → ⊥). rw (ne_eqb k (c - t.first.0) n) refl)
-        (cases_eq k (c - t.first.0))
+-- the mask of the hardware block that is asked again after an RSC
+pub asked_again : (t : Config) (c : ℕ) (T : List Circuit) (p : ℕ) → p ≡ c - t.first.0
+    → mask_by (λ k x. only t (as_cic c) k && is_standing x.local.hardware) ((c - t.first.0) / 32) T
+    ≡ cond (ltb 0 (p % 32) && is_standing (placed T p).local.hardware) (2 ^ (p % 32)) 0
+asked_again t c T p q =
+    let system = (c - t.first.0) / 32 in
+    let test = λ (s : ℕ). ltb 0 s && (only t (as_cic c) (system * 32 + s) && is_standing (placed T (system * 32 + s)).local.hardware) in
+    let here : system * 32 + p % 32 ≡ p = omega (arith, q) in
+    bits_one test 32 (p % 32) (omega arith)
+    (λ i l n. and_right (ltb 0 i) _ (and_left (only t (as_cic c) (system * 32 + i)) _ (ne_eqb (system * 32 + i) (c - t.first.0) (λ e. n (omega (arith, e, q, l))))))
+    ∙ rw (here, eq-eqb p (c - t.first.0) q) refl
 
 -- ## A group reset
 
@@ -154,10 +133,10 @@ grs_due : (t : Config) (c r : ℕ) (s : Slots) (why : BlockType) (T U : List Cir
     → s.first.0 ≡ c - t.first.0
     → s.group.range.0 ≡ r
     → U ≡ table_of (moving (in_range t c r) (λ _. on_grs) []) T
-    → (k : ℕ) → is_due (record { slots = s; effect = Every (Signal signal.Grs); condition = Standing why }) k (placed U k)
+    → (k : ℕ) → is_due (record { slots = s; effect = Every signal.Grs; condition = Standing why }) k (placed U k)
     ≡ (in_range t c r k && ((placed T k).equipped && is_standing (block_of why (placed T k).local)))
 grs_due t c r s why T U f e u k =
-    let due : Due = record { slots = s; effect = Every (Signal signal.Grs); condition = Standing why } in
+    let due : Due = record { slots = s; effect = Every signal.Grs; condition = Standing why } in
     ap (λ (V : List Circuit). is_due due k (placed V k)) u
     ∙ due_after (moving (in_range t c r) (λ _. on_grs) []) due T (λ _ x. (grs_keeps x).equipped) (λ _ x. group_reset_stands why x) k
     ∙ rw (f, e) (ap (λ (b : Bool). b && ((placed T k).equipped && is_standing (block_of why (placed T k).local))) (spans_at (c - t.first.0) r k))
@@ -166,10 +145,10 @@ pub grs_groups : (t : Config) (c r : ℕ) (s : Slots) (T U : List Circuit)
     → s.first.0 ≡ c - t.first.0
     → s.group.range.0 ≡ r
     → U ≡ table_of (moving (in_range t c r) (λ _. on_grs) []) T
-    → groups t Cgb Hardware (is_due (record { slots = s; effect = Every (Signal signal.Grs); condition = Standing Hardware })) U
+    → groups t Cgb Hardware (is_due (record { slots = s; effect = Every signal.Grs; condition = Standing Hardware })) U
     ≡ groups t Cgb Hardware (λ k x. x.equipped && (in_range t c r k && is_standing x.local.hardware)) T
 grs_groups t c r s T U f e u =
-    groups_same t Cgb Hardware (is_due (record { slots = s; effect = Every (Signal signal.Grs); condition = Standing Hardware }))
+    groups_same t Cgb Hardware (is_due (record { slots = s; effect = Every signal.Grs; condition = Standing Hardware }))
     (λ k x. x.equipped && (in_range t c r k && is_standing x.local.hardware)) U T
     (λ k. grs_due t c r s Hardware T U f e u k ∙ swapped (in_range t c r k) (placed T k).equipped (is_standing (placed T k).local.hardware))
 
@@ -180,10 +159,10 @@ pub grs_status : (t : Config) (c r : ℕ) (s : Slots) (T U : List Circuit) (x : 
     → U ≡ table_of (moving (in_range t c r) (λ _. on_grs) []) T
     → t.first.0 ≤ c
     → r ≤ 31
-    → x ≡ due_bits (record { slots = s; effect = Every (Signal signal.Grs); condition = Standing Maintenance }) s.first.0 0 U
+    → x ≡ due_bits (record { slots = s; effect = Every signal.Grs; condition = Standing Maintenance }) s.first.0 0 U
     → take (octets_for r) (x % 256 ∷ x / 256 % 256 ∷ x / 65536 % 256 ∷ x / 16777216 % 256 ∷ []) ≡ status_by (λ n. shows (circuit_of t (as_cic (c + n)) T)) r
 grs_status t c r s T U x f e u l high is =
-    let due : Due = record { slots = s; effect = Every (Signal signal.Grs); condition = Standing Maintenance } in
+    let due : Due = record { slots = s; effect = Every signal.Grs; condition = Standing Maintenance } in
     status_is (λ n. leb 0 n && is_due due (s.first.0 + n) (placed U (s.first.0 + n))) (λ n. shows (circuit_of t (as_cic (c + n)) T)) r x high is
     (λ n.
     let at = c - t.first.0 in

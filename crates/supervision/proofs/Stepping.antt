@@ -1,5 +1,5 @@
 -- A move, one place after the other.
-use Rattle.std.proofs.Common.{◌≡◌, ℕ, suc, ◌+◌, ◌<◌, ◌≤◌, Bool, List, [], ◌∷◌, ◌++◌, map, length, get_or, take, drop, set, Some, None, Option, sym, refl, ap, ◌∙◌, append_assoc, add-zero, zero-add, arith, length-append}
+use Rattle.std.proofs.Common.{◌≡◌, ℕ, zero, suc, ◌+◌, ◌<◌, ◌≤◌, Bool, List, [], ◌∷◌, ◌++◌, map, length, get_or, take, drop, set, Some, None, Option, sym, refl, ap, ◌∙◌, append_assoc, add-zero, zero-add, arith, length-append}
 use Rattle.std.proofs.lemmas.List.{append-nil, take_more, take-append-drop, length-take-le, set-get_or, map-append, length-map}
 use Rattle.circuit.specs.Changes.{quiet}
 use Rattle.circuit.specs.Circuits.{is_open, vacant}
@@ -126,6 +126,19 @@ stands_skip t f m T H W table held words n s lt lw q =
     (rw (q, settled_at_same held m (is_open (get_or table m vacant))) refl)
     (rw q (sym (take-append-drop n words)))
     (rw (q, add-zero n) refl)
+
+-- and several of them
+pub stands_quiet : (t : Config) (f : Step) (m d : ℕ) (T : List Circuit) (H : List Bool) (W : List ℕ) (table : List Circuit) (held : List Bool) (words : List ℕ) (n : ℕ)
+    → Stands t f m T H W table held words n
+    → m + d ≤ length T
+    → n ≤ length W
+    → Quiet f m d
+    → Stands t f (m + d) T H W table held words n
+stands_quiet t f m zero T H W table held words n s l lw q = rw (add-zero m) s
+stands_quiet t f m (suc d) T H W table held words n s l lw q =
+    let e : m + d + 1 ≡ m + suc d = omega arith in
+    let h = stands_quiet t f m d T H W table held words n s (omega arith) lw (λ j a b. q j a (omega arith)) in
+    rw e at (stands_skip t f (m + d) T H W table held words n h (omega arith) (rw (← h.3) lw) (q (m + d) (omega arith) (omega arith) (get_or table (m + d) vacant)))
 
 -- the rest stays as it is
 pub stands_all : (t : Config) (f : Step) (m : ℕ) (T : List Circuit) (H : List Bool) (W : List ℕ) (table : List Circuit) (held : List Bool) (words : List ℕ) (n : ℕ)

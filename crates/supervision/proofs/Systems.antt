@@ -1,5 +1,5 @@
 -- Messages added to what was written, and which PCM systems have one.
-use Rattle.std.proofs.Common.{◌≡◌, ℕ, zero, suc, ◌+◌, ◌*◌, ◌/◌, ◌<◌, ◌≤◌, Bool, false, ◌&&◌, ltb, List, [], ◌++◌, sym, refl, ap, ◌∙◌, subst, append_assoc, arith}
+use Rattle.std.proofs.Common.{◌≡◌, ℕ, zero, suc, ◌+◌, ◌*◌, ◌/◌, ◌<◌, ◌≤◌, Bool, false, ◌&&◌, ltb, List, [], ◌++◌, sym, refl, ap, subst, append_assoc, arith}
 use Rattle.std.proofs.lemmas.Bool.{and_right}
 use Rattle.std.proofs.lemmas.List.{append-nil}
 use Rattle.message.specs.Msg.{Msg}
@@ -7,11 +7,11 @@ use Rattle.message.specs.declared.kinds.BlockType.{BlockType}
 use Rattle.message.specs.declared.kinds.Grouped.{Grouped}
 use Rattle.circuit.specs.declared.record.Circuit.{Circuit}
 use Rattle.supervision.specs.declared.trunk.Config.{Config}
-use Rattle.supervision.specs.Groups.{bits_below, mask_by, group_for, groups_below, groups}
+use Rattle.supervision.specs.Groups.{mask_by, group_for, groups_below, groups}
 use Rattle.supervision.specs.Lending.{Performed, lent}
 use Rattle.supervision.specs.Steps.{sending, Extends}
 use Rattle.supervision.specs.Trunks.{placed}
-use Rattle.supervision.proofs.Bits.{bits_same}
+use Rattle.supervision.proofs.Bits.{bits_same, no_bits}
 
 -- nothing more
 pub extends_none : (n : ℕ × ℕ) (w o : List ℕ) → Extends (sending []) n w o n w o
@@ -26,17 +26,12 @@ extends_both xs ys a b c w o w' o' w'' o'' f g = λ t m before T H e p.
 
 -- ## PCM systems without a message
 
-none_set : (n : ℕ) → bits_below (λ _. false) n ≡ 0
-none_set zero = refl
-none_set (suc n) = rw (none_set n) refl
-
 pub no_group : (t : Config) (what : Grouped) (why : BlockType) (p : ℕ → Circuit → Bool) (system : ℕ) (T : List Circuit)
     → ((k : ℕ) → k / 32 ≡ system → p k (placed T k) ≡ false) → group_for t what why p system T ≡ []
 no_group t what why p system T h =
     let z : mask_by p system T ≡ 0 =
-    bits_same (λ j. ltb 0 j && p (system * 32 + j) (placed T (system * 32 + j))) (λ _. false) 32
-    (λ j l. and_right (ltb 0 j) (p (system * 32 + j) (placed T (system * 32 + j))) (h (system * 32 + j) (omega (arith, l))))
-    ∙ none_set 32 in
+    no_bits (λ j. ltb 0 j && p (system * 32 + j) (placed T (system * 32 + j))) 32
+    (λ j l. and_right (ltb 0 j) (p (system * 32 + j) (placed T (system * 32 + j))) (h (system * 32 + j) (omega (arith, l)))) in
     rw z refl
 
 -- none below the PCM system n

@@ -19,11 +19,13 @@ bits_below p (suc n) = bits_below p n + cond (p n) (2 ^ n) 0
 abbrev pub mask_by : (ℕ → Circuit → Bool) → ℕ → List Circuit → ℕ
 mask_by p system table = bits_below (λ slot. nat_lt 0 slot && p (system * SLOTS + slot) (placed table (system * SLOTS + slot))) 32
 
--- our message for them, if there is one
+-- our message for the time slots of a mask, if it has any
+abbrev pub asking : Config → Grouped → BlockType → ℕ → ℕ → List Msg
+asking t what why system mask = cond (mask == 0) [] (group_message t system what why mask ∷ [])
+
+-- our message for such circuits, if there are any
 abbrev pub group_for : Config → Grouped → BlockType → (ℕ → Circuit → Bool) → ℕ → List Circuit → List Msg
-group_for t what why p system table =
-    cond (mask_by p system table == 0) []
-    (group_message t system what why (mask_by p system table) ∷ [])
+group_for t what why p system table = asking t what why system (mask_by p system table)
 
 -- one for each of the first n PCM systems concerned, rising
 abbrev pub groups_below : Config → Grouped → BlockType → (ℕ → Circuit → Bool) → ℕ → List Circuit → List Msg

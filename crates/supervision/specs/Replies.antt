@@ -1,11 +1,9 @@
 -- What is answered to a message for one circuit, from the record before.
-use Rattle.std.specs.Prelude.{ℕ, Bool, List, [], ◌∷◌, Some, None, Option}
+use Rattle.std.specs.Prelude.{ℕ, List, [], ◌∷◌, Some, None, Option}
 use Rattle.message.specs.Meaning.{meaning}
 use Rattle.message.specs.declared.content.Message.{Message}
 use Rattle.message.specs.Msg.{Msg, single, release_complete}
 use Rattle.message.specs.declared.kinds.BlockType.{BlockType}
-use Rattle.message.specs.declared.kinds.CallKind.{CallKind}
-use Rattle.message.specs.declared.kinds.CallKind.TheVariants.{Iam, Acm, Con, Anm, Cpg}
 use Rattle.message.specs.declared.kinds.Grouped.{Grouped}
 use Rattle.message.specs.declared.kinds.Grouped.TheVariants.{Cgb, Cgu, Cgba, Cgua}
 use Rattle.message.specs.declared.kinds.Single.TheVariants.{Blo, Ubl, Bla, Uba}
@@ -37,14 +35,6 @@ signal_of Cgb why = signal.Block why
 signal_of Cgu why = signal.Unblock why
 signal_of Cgba why = signal.BlockAck why
 signal_of Cgua why = signal.UnblockAck why
-
--- a call message as its circuit sees it
-abbrev pub call_signal : CallKind → Bool → Signal
-call_signal Iam control = signal.Iam control
-call_signal Acm control = signal.Progress
-call_signal Con control = signal.Progress
-call_signal Anm control = signal.Progress
-call_signal Cpg control = signal.Progress
 
 -- an answer of the code, with the octets that it points to
 abbrev pub replied : Option Message → List Msg

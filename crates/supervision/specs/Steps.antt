@@ -4,11 +4,11 @@ use Rattle.status.specs.Bits.{is_named, set_bits}
 use Rattle.message.specs.Msg.{Msg}
 use Rattle.words.specs.Words.{number_of}
 use Rattle.circuit.specs.Orders.{applied}
-use Rattle.circuit.specs.Signals.{on_gra}
+use Rattle.circuit.specs.Signals.{on_gra, on_signal}
 use Rattle.circuit.specs.declared.record.Circuit.{Circuit}
 use Rattle.circuit.specs.declared.rules.Change.{Change}
 use Rattle.supervision.specs.declared.slots.Effect.{Effect}
-use Rattle.supervision.specs.declared.slots.Effect.TheVariants.{Marked, Every, Acknowledged}
+use Rattle.supervision.specs.declared.slots.Effect.TheVariants.{Marked, Heard, Every, Acknowledged}
 use Rattle.supervision.specs.declared.slots.Slots.{Slots}
 use Rattle.supervision.specs.declared.trunk.Config.{Config}
 use Rattle.supervision.specs.Lending.{Lent, Performed, lent, over, settled}
@@ -41,19 +41,22 @@ spanned slots k = nat_le slots.first.0 k && nat_le (k - slots.first.0) slots.gro
 -- the places where an effect does something
 abbrev pub touched : Effect → Slots → ℕ → Bool
 touched (Marked rule) slots = named_by slots
-touched (Every rule) slots = spanned slots
+touched (Heard signal) slots = named_by slots
+touched (Every signal) slots = spanned slots
 touched Acknowledged slots = spanned slots
 
 -- what it does there
 abbrev pub rule_by : Effect → Slots → ℕ → Circuit → Change
 rule_by (Marked rule) slots k = applied rule
-rule_by (Every rule) slots k = applied rule
+rule_by (Heard signal) slots k = on_signal signal
+rule_by (Every signal) slots k = on_signal signal
 rule_by Acknowledged slots k = on_gra (is_named slots.group.range.0 slots.group.status.now (k - slots.first.0))
 
 -- how many of the first n circuits of the range that are
 abbrev pub tally : Effect → Slots → ℕ → ℕ
 tally (Marked rule) slots n = set_bits slots.group.status.now n
-tally (Every rule) slots n = n
+tally (Heard signal) slots n = set_bits slots.group.status.now n
+tally (Every signal) slots n = n
 tally Acknowledged slots n = n
 
 -- a move that sends these messages too

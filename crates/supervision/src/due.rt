@@ -1,8 +1,9 @@
 // Circuits for which a message is due, by what their records say.
-ghost use Rattle.std.specs.Prelude.{◌≡◌, ℕ, ◌+◌, ◌*◌, ◌/◌, ◌<◌, ◌&&◌, nat_le};
+ghost use Rattle.std.specs.Prelude.{◌≡◌, ℕ, ◌+◌, ◌*◌, ◌/◌, ◌<◌, not, ◌&&◌, length, nat_le, ◌==◌};
 ghost use Rattle.circuit.specs.declared.record.Circuit.{Circuit as Record};
 ghost use Rattle.supervision.specs.Due.{holds, is_due, due_bits};
 ghost use Rattle.supervision.specs.Groups.{mask_by};
+ghost use Rattle.supervision.specs.Steps.{touched};
 ghost use Rattle.supervision.specs.Trunks.{placed};
 
 use crate::limits::{MOST_SYSTEMS, SLOTS};
@@ -50,6 +51,32 @@ impl Condition {
             Condition::Group => circuit.reset == Reset::Group,
         }
     }
+
+    // Whether a circuit is at a place, and it holds of it.
+    #[inline(always)]
+    fn is_at(self, place: Place, table: &[Circuit]) -> bool
+        ensures { result
+            ≡ ((placed table.now place.0).equipped && holds self (placed table.now place.0)) }
+    {
+        table
+            .get(place.0)
+            .is_some_and(|circuit| circuit.equipped && self.holds(*circuit))
+    }
+
+    // Whether it holds of some circuit of a PCM system. Time slot 0 is never one.
+    #[inline(always)]
+    pub(crate) fn is_in(self, system: usize, table: &[Circuit]) -> bool
+        requires { system < MOST_SYSTEMS }
+        ensures { result
+            ≡ not (mask_by (λ _ x. x.equipped && holds self x) system table.now == 0) }
+    {
+        for slot in 1..SLOTS {
+            if self.is_at(Place(system * SLOTS + slot), table) {
+                return true;
+            }
+        }
+        false
+    }
 }
 
 impl Due<'_> {
@@ -57,7 +84,8 @@ impl Due<'_> {
     #[inline(always)]
     pub(crate) fn of_system(system: usize, condition: Condition) -> Due<'static>
         requires { system < MOST_SYSTEMS }
-        ensures { (k : ℕ) (x : Record) → k / SLOTS ≡ system
+        ensures inside { result.slots.first.0 + result.slots.group.range.0 < (system + 1) * SLOTS }
+        ensures due { (k : ℕ) (x : Record) → k / SLOTS ≡ system
             → is_due result k x ≡ (x.equipped && holds condition x) }
     {
         let slots = Slots {
@@ -74,40 +102,45 @@ impl Due<'_> {
         }
     }
 
-    // Whether the circuit at a place is one of them.
+    // Whether the effect does something at a place.
     #[inline(always)]
-    fn is_at(self, place: Place, table: &[Circuit]) -> bool
-        ensures { result ≡ is_due self.entry place.0 (placed table.now place.0) }
+    fn is_touched(self, place: Place) -> bool
+        ensures { result ≡ touched self.entry.effect self.entry.slots place.0 }
     {
         let Some(n) = place.0.checked_sub(self.slots.first.0) else {
             return false;
         };
-        if n > self.slots.group.range.0 as usize || !self.slots.touches(self.effect, n as u8) {
-            return false;
-        }
-        table.get(place.0).is_some_and(|circuit| circuit.equipped && self.condition.holds(*circuit))
+        n <= self.slots.group.range.0 as usize && self.slots.touches(self.effect, n as u8)
     }
 
-    // Whether the circuit n places after `from` is, where n is not below `start`.
+    // Whether the circuit n places after `from` is one of them, where n is not below `start`.
     #[inline(always)]
-    fn is_in(self, from: Place, start: u32, n: u32, table: &[Circuit]) -> bool
-        requires { from.0 + n < 8192 }
+    fn is_at(self, from: Place, start: usize, n: usize, table: &[Circuit]) -> bool
+        requires inside { from.0 + n < length table.now }
+        requires small { from.0 + n < 8192 }
         ensures { result
             ≡ (nat_le start n && is_due self.entry (from.0 + n) (placed table.now (from.0 + n))) }
     {
-        n >= start && self.is_at(Place(from.0 + n as usize), table)
+        let circuit = table[from.0 + n];
+        // most circuits are told apart by their record, before it is seen whether they are touched
+        n >= start
+            && circuit.equipped
+            && self.condition.holds(circuit)
+            && self.is_touched(Place(from.0 + n))
     }
 
     // A bit for each of the 32 places from `from` on, set where one of them is, and none below bit
     // `start`.
     #[inline(always)]
-    pub(crate) fn bits(self, from: Place, start: u32, table: &[Circuit]) -> u32
-        requires { from.0 < 4096 }
+    pub(crate) fn bits(self, from: Place, start: usize, table: &[Circuit]) -> u32
+        requires small { from.0 < 4096 }
+        requires inside { self.slots.first.0 + self.slots.group.range.0 < length table.now }
         ensures { result ≡ due_bits self.entry from.0 start table.now }
     {
+        let end = self.slots.first.0 + self.slots.group.range.0 as usize + 1;
         let mut bits = 0;
-        for n in 0..32 {
-            bits += u32::from(self.is_in(from, start, n, table)) << n;
+        for n in 0..end.saturating_sub(from.0).min(SLOTS) {
+            bits += u32::from(self.is_at(from, start, n, table)) << n;
         }
         bits
     }
@@ -115,7 +148,8 @@ impl Due<'_> {
     // The mask of those of a PCM system. Time slot 0 is never one.
     #[inline(always)]
     pub(crate) fn mask(self, system: usize, table: &[Circuit]) -> u32
-        requires { system < MOST_SYSTEMS }
+        requires small { system < MOST_SYSTEMS }
+        requires inside { self.slots.first.0 + self.slots.group.range.0 < length table.now }
         ensures { result ≡ mask_by (is_due self.entry) system table.now }
     {
         self.bits(Place(system * SLOTS), 1, table)

@@ -4,6 +4,9 @@ ghost use Rattle.message.specs.Encode.{encode, refusal_of};
 ghost use Rattle.message.specs.Meaning.{meaning};
 ghost use Rattle.circuit.specs.Circuits.{is_open};
 ghost use Rattle.circuit.specs.Laws.{told_of};
+ghost use Rattle.circuit.specs.declared.record.Circuit.{Circuit as Record};
+ghost use Rattle.circuit.specs.declared.rules.Change.{Change as Changed};
+ghost use Rattle.circuit.specs.declared.rules.Rule.{Rule as Rules};
 ghost use Rattle.circuit.specs.Orders.{applied};
 ghost use Rattle.policy.specs.Sets.{Follows};
 ghost use Rattle.status.specs.Bits.{set_bits};
@@ -62,31 +65,26 @@ fn tell(cic: Cic, change: Change, words: &mut [u32]) -> usize
     count
 }
 
-// Does the rule to the circuit of a place, and tells of its call; how many words that takes. It has
-// an instance for each caller, and so have those between, so that it is compiled for the rule that
-// is done there: else a circuit would take several times as long.
+// Writes what a rule made of the circuit of a place, and tells of its call; how many words that takes.
 #[inline(always)]
-fn visit<P: Policy, const CALLER: u8>(
+fn store<P: Policy>(
     cic: Cic,
     place: Place,
-    rule: Rule,
+    change: Change,
     circuit: &mut Circuit,
     policy: &mut P,
     words: &mut [u32],
 ) -> usize
     requires { 2 ≤ length words.old }
-    ensures circuit { circuit.new ≡ (applied rule circuit.old).circuit }
+    ensures circuit { circuit.new ≡ change.circuit }
     ensures held { P.Policy.held policy.new
         ≡ settled_at (P.Policy.held policy.old) place.0 (is_open circuit.old)
-        (is_open (applied rule circuit.old).circuit) }
+        (is_open change.circuit) }
     ensures policy { Follows P.Policy.obeys
-        (update_at place.0 (is_open circuit.old) (is_open (applied rule circuit.old).circuit))
-        policy.old policy.new }
-    ensures words { words.new
-        ≡ over (map number_of (told_of cic (applied rule circuit.old))) words.old }
-    ensures count { result ≡ length (told_of cic (applied rule circuit.old)) }
+        (update_at place.0 (is_open circuit.old) (is_open change.circuit)) policy.old policy.new }
+    ensures words { words.new ≡ over (map number_of (told_of cic change)) words.old }
+    ensures count { result ≡ length (told_of cic change) }
 {
-    let change = rule.apply(*circuit);
     put(place, change.circuit, circuit, policy);
     tell(cic, change, words)
 }
@@ -119,48 +117,62 @@ pub(crate) fn send(
     (told + 1, sent + length)
 }
 
-// Does its effect at each equipped place of slots; how many words that takes.
-#[inline(always)]
-pub(crate) fn sweep<P: Policy, const CALLER: u8>(
+// Does its effect at each equipped place of slots; how many words that takes. The effect comes from a
+// closure, so that each has an instance of its own, compiled for what it does.
+pub(crate) fn sweep<P: Policy, E: Fn() -> Effect>(
     trunk: Trunk,
     slots: Slots<'_>,
-    effect: Effect,
+    what: E,
     table: &mut [Circuit],
     policy: &mut P,
     words: &mut [u32],
 ) -> usize
+    requires callable { E.IsAlwaysCallable what }
     requires inside { slots.first.0 + slots.group.range.0 < length table.old }
     requires table { length table.old ≤ places trunk.config }
-    requires room { tally effect slots (slots.group.range.0 + 1) ≤ 32 }
+    requires room { (e : Effect) → E.post what e → tally e slots (slots.group.range.0 + 1) ≤ 32 }
     requires words { WORDS ≤ length words.old }
-    ensures done { (octets : List ℕ)
-        → Performed trunk.config
-        (moving (touched effect slots.entry) (rule_by effect slots.entry) []) (result, 0)
+    ensures done { (e : Effect) → ((x : Effect) → E.post what x → x ≡ e) → (octets : List ℕ)
+        → Performed trunk.config (moving (touched e slots.entry) (rule_by e slots.entry) [])
+        (result, 0)
         (lent table.old (P.Policy.held policy.old) words.old octets)
         (lent table.new (P.Policy.held policy.new) words.new octets) }
     ensures policy { Tells P.Policy.obeys table.old table.new policy.old policy.new }
-    ensures few { result ≤ tally effect slots.entry (slots.entry.group.range.0 + 1) * 2 }
+    ensures few { result ≤ 64 }
 {
+    let effect = what();
+    let end = slots.group.range.0 as usize + 1;
     let mut count = 0;
-    let circuits = &mut table[slots.first.0..=slots.first.0 + slots.group.range.0 as usize];
-    for (n, circuit) in circuits.iter_mut().enumerate() {
-        if slots.touches(effect, n as u8) && circuit.equipped {
-            let rule = slots.rule(effect, n as u8);
+    let mut past = 0;
+    while past < end {
+        let bits = slots.touched(effect, past);
+        let mut n = past;
+        let mut rest = bits;
+        while rest != 0 {
+            let skipped = rest.trailing_zeros();
+            n += skipped as usize;
             let place = Place(slots.first.0 + n);
-            let rest = &mut words[count..];
-            count += visit::<P, CALLER>(trunk.cic_at(place), place, rule, circuit, policy, rest);
+            let circuit = &mut table[place.0];
+            if circuit.equipped {
+                let change = slots.apply(effect, n as u8, *circuit);
+                let rest = &mut words[count..];
+                count += store(trunk.cic_at(place), place, change, circuit, policy, rest);
+            }
+            n += 1;
+            rest = rest >> skipped >> 1;
         }
+        past = end.min(past + 32);
     }
     count
 }
 
 impl Trunk {
-    // Does a rule at the place of an equipped circuit; how many words that takes.
+    // Writes what a rule made of an equipped circuit; how many words that takes.
     #[inline(always)]
-    pub(crate) fn change_at<P: Policy, const CALLER: u8>(
+    pub(crate) fn change_at<P: Policy>(
         self,
         place: Place,
-        rule: Rule,
+        change: Change,
         table: &mut [Circuit],
         policy: &mut P,
         words: &mut [u32],
@@ -169,23 +181,24 @@ impl Trunk {
         requires table { length table.old ≤ places self.config }
         requires room { 2 ≤ length words.old }
         requires equipped { (placed table.old place.0).equipped ≡ true }
-        ensures done { (octets : List ℕ)
-            → Performed self.config (moving (λ k. nat_eq k place.0) (λ _. applied rule) [])
+        ensures done { (rule : Record → Changed) → change ≡ rule (placed table.old place.0)
+            → (octets : List ℕ)
+            → Performed self.config (moving (λ k. nat_eq k place.0) (λ _. rule) [])
             (result, 0) (lent table.old (P.Policy.held policy.old) words.old octets)
             (lent table.new (P.Policy.held policy.new) words.new octets) }
         ensures policy { Tells P.Policy.obeys table.old table.new policy.old policy.new }
         ensures few { result ≤ 2 }
     {
         let circuit = &mut table[place.0];
-        visit::<P, CALLER>(self.cic_at(place), place, rule, circuit, policy, words)
+        store(self.cic_at(place), place, change, circuit, policy, words)
     }
 
-    // Does a rule at the place of an equipped circuit, and sends a message.
+    // Writes what a rule made of an equipped circuit, and sends a message.
     #[inline(always)]
-    pub(crate) fn perform_at<P: Policy, const CALLER: u8>(
+    pub(crate) fn perform_at<P: Policy>(
         self,
         place: Place,
-        rule: Rule,
+        change: Change,
         message: Message<'_>,
         table: &mut [Circuit],
         policy: &mut P,
@@ -197,40 +210,43 @@ impl Trunk {
         requires inside { place.0 < length table.old }
         requires equipped { (placed table.old place.0).equipped ≡ true }
         requires sendable { Sendable (meaning message) }
-        ensures done { Performed self.config
+        ensures done { (rule : Rules) → change ≡ applied rule (placed table.old place.0)
+            → Performed self.config
             (ordered (λ k. nat_eq k place.0) rule (meaning message.entry)) result
             (lent table.old (P.Policy.held policy.old) words.old octets.old)
             (lent table.new (P.Policy.held policy.new) words.new octets.new) }
         ensures policy { Tells P.Policy.obeys table.old table.new policy.old policy.new }
     {
-        let told = self.change_at::<P, CALLER>(place, rule, table, policy, words);
+        let told = self.change_at(place, change, table, policy, words);
         send(message, (told, 0), words, octets)
     }
 
     // Does a rule at each circuit that slots name, and sends a message.
     #[inline(always)]
-    pub(crate) fn perform<P: Policy, const CALLER: u8>(
+    pub(crate) fn perform<P: Policy, R: Fn() -> Rule>(
         self,
         slots: Slots<'_>,
-        rule: Rule,
+        rule: R,
         message: Message<'_>,
         table: &mut [Circuit],
         policy: &mut P,
         words: &mut [u32],
         octets: &mut [u8],
     ) -> (usize, usize)
+        requires callable { R.IsAlwaysCallable rule }
         requires enough { Suffices self.config P.Policy.PLACES
             (lent table.old (P.Policy.held policy.old) words.old octets.old) }
         requires inside { slots.first.0 + slots.group.range.0 < length table.old }
         requires few { set_bits slots.group.status.now (slots.group.range.0 + 1) ≤ 32 }
         requires sendable { Sendable (meaning message) }
-        ensures done { Performed self.config
-            (ordered (named_by slots.entry) rule (meaning message.entry)) result
+        ensures done { (r : Rule) → ((x : Rule) → R.post rule x → x ≡ r)
+            → Performed self.config
+            (ordered (named_by slots.entry) r (meaning message.entry)) result
             (lent table.old (P.Policy.held policy.old) words.old octets.old)
             (lent table.new (P.Policy.held policy.new) words.new octets.new) }
         ensures policy { Tells P.Policy.obeys table.old table.new policy.old policy.new }
     {
-        let told = sweep::<P, CALLER>(self, slots, Effect::Marked(rule), table, policy, words);
+        let told = sweep(self, slots, || Effect::Marked(rule()), table, policy, words);
         send(message, (told, 0), words, octets)
     }
 }

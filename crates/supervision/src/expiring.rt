@@ -130,6 +130,7 @@ impl Trunk {
         words: &mut [u32],
         octets: &mut [u8],
     ) -> Result<(usize, usize), Refusal>
+        requires table { length table.now ≡ places self.config }
         requires words { WORDS ≤ length words.old }
         requires octets { OCTETS ≤ length octets.old }
         ensures { (held : List Bool) → length table.now ≤ length held
@@ -159,7 +160,7 @@ impl Trunk {
     }
 
     // A group reset, while some circuit of the PCM system waits for its answer.
-    #[inline(never)]
+    #[inline(always)]
     fn repeat_group_reset(
         self,
         system: usize,
@@ -180,7 +181,7 @@ impl Trunk {
         if system >= self.config.systems {
             return Err(Refusal::Address);
         }
-        if Due::of_system(system, Condition::Group).mask(system, table) == 0 {
+        if !Condition::Group.is_in(system, table) {
             return Ok((0, 0));
         }
         let message = Message::GroupReset(self.cic_at(slots_of(system, &[]).first), RANGE);
@@ -188,7 +189,7 @@ impl Trunk {
     }
 
     // T5: a releasing circuit is reset, where that may be ordered, with an alert.
-    #[inline(never)]
+    #[inline(always)]
     fn give_up<P: Policy>(
         self,
         cic: Cic,
@@ -210,12 +211,13 @@ impl Trunk {
         if !Condition::Releasing.holds(circuit) {
             return Ok((0, 0));
         }
-        let rule = Rule::Reset(Reset::Single);
-        if !rule.allows(circuit) {
+        if circuit.reset.is_group() {
             return Err(Refusal::State);
         }
+        let rule = Rule::Reset(Reset::Single);
         let message = Message::Single(cic, Single::Rsc);
-        let told = self.change_at::<P, 5>(place, rule, table, policy, words);
+        let change = rule.apply(circuit);
+        let told = self.change_at(place, change, table, policy, words);
         let written = send(message, (told, 0), words, octets);
         Ok(alert(Timer::T5, cic, written, words))
     }
@@ -233,6 +235,7 @@ impl Trunk {
         words: &mut [u32],
         octets: &mut [u8],
     ) -> Result<(usize, usize), Refusal>
+        requires table { length table.now ≡ places self.config }
         requires words { WORDS ≤ length words.old }
         requires octets { OCTETS ≤ length octets.old }
         ensures { (held : List Bool) → length table.now ≤ length held

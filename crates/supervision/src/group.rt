@@ -37,12 +37,12 @@ pub(crate) fn slots_of(system: usize, status: &[u8]) -> Slots<'_>
 
 impl Trunk {
     // Does an order for the circuits of a mask and sends its message.
-    #[inline(always)]
-    fn order_group<P: Policy, const CALLER: u8>(
+    #[inline(never)]
+    fn order_group<P: Policy, R: Fn() -> Rule>(
         self,
         system: usize,
         mask: u32,
-        rule: Rule,
+        rule: R,
         what: Grouped,
         why: BlockType,
         table: &mut [Circuit],
@@ -50,16 +50,19 @@ impl Trunk {
         words: &mut [u32],
         octets: &mut [u8],
     ) -> Result<(usize, usize), Refusal>
+        requires callable { R.IsAlwaysCallable rule }
         requires enough { Suffices self.config P.Policy.PLACES
             (lent table.old (P.Policy.held policy.old) words.old octets.old) }
-        ensures outcome { Outcome self.config
+        ensures outcome { (r : Rule) → ((x : Rule) → R.post rule x → x ≡ r)
+            → Outcome self.config
             (λ before.
-            groupwise self.config system mask rule
+            groupwise self.config system mask r
             (group_message self.config system what why mask) before.table) result
             (lent table.old (P.Policy.held policy.old) words.old octets.old)
             (lent table.new (P.Policy.held policy.new) words.new octets.new) }
-        ensures group { GroupLaws self.config system mask rule
-            (groupwise self.config system mask rule (group_message self.config system what why mask)
+        ensures group { (r : Rule) → ((x : Rule) → R.post rule x → x ≡ r)
+            → GroupLaws self.config system mask r
+            (groupwise self.config system mask r (group_message self.config system what why mask)
             table.old)
             (lent table.old (P.Policy.held policy.old) words.old octets.old)
             (lent table.new (P.Policy.held policy.new) words.new octets.new) }
@@ -70,14 +73,14 @@ impl Trunk {
         }
         let status = (mask / 2).to_le_bytes();
         let slots = slots_of(system, &status);
-        slots.judge(rule, table)?;
+        slots.judge(rule(), table)?;
         let cic = self.cic_at(slots.first);
         let message = Message::Grouped(cic, what, why, slots.group);
-        Ok(self.perform::<P, CALLER>(slots, rule, message, table, policy, words, octets))
+        Ok(self.perform(slots, rule, message, table, policy, words, octets))
     }
 
     // Resets the circuits of a PCM system and sends the message.
-    #[inline(always)]
+    #[inline(never)]
     fn clear<P: Policy>(
         self,
         system: usize,
@@ -101,14 +104,14 @@ impl Trunk {
         }
         let every = [0xff, 0xff, 0xff, 0x7f];
         let slots = slots_of(system, &every);
-        let rule = Rule::Reset(Reset::Group);
+        let rule = || Rule::Reset(Reset::Group);
         let message = Message::GroupReset(self.cic_at(slots.first), RANGE);
-        Ok(self.perform::<P, 0x17>(slots, rule, message, table, policy, words, octets))
+        Ok(self.perform(slots, rule, message, table, policy, words, octets))
     }
 
     // Does an order of a type for the circuits of a mask, by the rule for that type.
     #[inline(always)]
-    pub(crate) fn order_typed<P: Policy, F: Fn(BlockType) -> Rule, const CALLER: u8>(
+    pub(crate) fn order_typed<P: Policy, F: Fn(BlockType) -> Rule>(
         self,
         rule: F,
         what: Grouped,
@@ -138,8 +141,16 @@ impl Trunk {
     {
         self.admit(table, policy, words, octets)?;
         let why = type_of(kind, mask)?;
-        let rule = rule(why);
-        self.order_group::<P, CALLER>(system, mask, rule, what, why, table, policy, words, octets)
+        match why {
+            BlockType::Maintenance => {
+                let rule = || rule(BlockType::Maintenance);
+                self.order_group(system, mask, rule, what, why, table, policy, words, octets)
+            }
+            BlockType::Hardware => {
+                let rule = || rule(BlockType::Hardware);
+                self.order_group(system, mask, rule, what, why, table, policy, words, octets)
+            }
+        }
     }
 
     // Resets every circuit of a PCM system.

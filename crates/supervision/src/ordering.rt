@@ -61,26 +61,26 @@ impl Trunk {
                 value,
             } => self.release(cic, location, value, table, policy, words, octets),
             Order::Block(cic) => {
-                let rule = Rule::Block(BlockType::Maintenance);
-                self.order_single::<P, 0x13>(cic, rule, Single::Blo, table, policy, words, octets)
+                let rule = || Rule::Block(BlockType::Maintenance);
+                self.order_single(cic, rule, Single::Blo, table, policy, words, octets)
             }
             Order::Unblock(cic) => {
-                let rule = Rule::Unblock(BlockType::Maintenance);
-                self.order_single::<P, 0x14>(cic, rule, Single::Ubl, table, policy, words, octets)
+                let rule = || Rule::Unblock(BlockType::Maintenance);
+                self.order_single(cic, rule, Single::Ubl, table, policy, words, octets)
             }
             Order::Reset(cic) => {
-                let rule = Rule::Reset(Reset::Single);
-                self.order_single::<P, 0x12>(cic, rule, Single::Rsc, table, policy, words, octets)
+                let rule = || Rule::Reset(Reset::Single);
+                self.order_single(cic, rule, Single::Rsc, table, policy, words, octets)
             }
             Order::GroupBlock { kind, system, mask } => {
                 let rule = Rule::Block;
-                self.order_typed::<P, _, 0x18>(
+                self.order_typed(
                     rule, block, kind, system, mask, table, policy, words, octets,
                 )
             }
             Order::GroupUnblock { kind, system, mask } => {
                 let rule = Rule::Unblock;
-                self.order_typed::<P, _, 0x19>(
+                self.order_typed(
                     rule, unblock, kind, system, mask, table, policy, words, octets,
                 )
             }

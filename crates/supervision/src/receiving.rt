@@ -1,10 +1,15 @@
 // What the far exchange sends.
-ghost use Rattle.std.specs.Prelude.{◌≡◌, ◌+◌, ◌*◌, ◌<◌, ◌≤◌, List, [], ◌∷◌, ℕ, ◌-◌, not, ◌&&◌, ◌==◌, length, None, IfOk, IfSome, Ok};
-ghost use Rattle.circuit.specs.Orders.{applied};
-ghost use Rattle.circuit.specs.declared.rules.Rule.TheVariants as rule;
+ghost use Rattle.std.specs.Prelude.{◌≡◌, ◌+◌, ◌*◌, ◌%◌, ◌^◌, ◌<◌, ◌≤◌, List, [], ◌∷◌, ℕ, ◌-◌, cond, not, ◌&&◌, ◌==◌, nat_lt, length, None, IfOk, IfSome, Ok};
+ghost use Rattle.circuit.specs.Circuits.{is_standing};
+ghost use Rattle.circuit.specs.Signals.{on_signal};
+ghost use Rattle.circuit.specs.declared.record.Circuit.{Circuit as Record};
+ghost use Rattle.circuit.specs.declared.rules.Change.{Change as Changed};
+ghost use Rattle.circuit.specs.declared.signals.Signal.{Signal as Signals};
 ghost use Rattle.message.specs.Encode.{refusal_of};
 ghost use Rattle.message.specs.Meaning.{meaning, indicator_of};
-ghost use Rattle.message.specs.Msg.{single, grouped, group_reset, group_reset_ack};
+ghost use Rattle.message.specs.Msg.{call, single, grouped, group_reset, group_reset_ack};
+ghost use Rattle.message.specs.declared.kinds.BlockType.{BlockType as Why};
+ghost use Rattle.message.specs.declared.kinds.Grouped.{Grouped as Kind};
 ghost use Rattle.message.specs.declared.kinds.Single.TheVariants.{Rsc};
 ghost use Rattle.refusal.specs.Refusals.{unless};
 ghost use Rattle.refusal.specs.declared.reasons.Refusal.TheVariants.{Address};
@@ -12,44 +17,36 @@ ghost use Rattle.supervision.specs.Laws.{Outcome};
 ghost use Rattle.supervision.specs.Lending.{Suffices, lent};
 ghost use Rattle.supervision.specs.Moves.{some_from};
 ghost use Rattle.supervision.specs.Receiving.{to_one, is_range, is_counted, is_unexpected, marked, heard, receiving};
-ghost use Rattle.supervision.specs.Replies.{call_signal, replied, reply_to, signal_of};
+ghost use Rattle.supervision.specs.Replies.{replied, reply_to, signal_of};
+ghost use Rattle.supervision.specs.declared.slots.Effect.TheVariants.{Heard};
 ghost use Rattle.supervision.specs.Steps.{sending, Extends};
 ghost use Rattle.supervision.specs.Telling.{Tells};
 ghost use Rattle.supervision.specs.Trunks.{places};
+ghost use Rattle.supervision.specs.declared.limits.TheConstants.{SLOTS};
 
 use crate::due::{Condition, Due};
 use crate::effects::{send, sweep};
 use crate::limits::{OCTETS, SLOTS, WORDS};
 use crate::slots::{Effect, Slots};
 use crate::trunk::Trunk;
-use circuit::{CauseOctets, Circuit, Reset, Rule, Signal};
+use circuit::{CauseOctets, Change, Circuit, Reset, Signal};
 use message::{BlockType, CallKind, Cause, Grouped, Message, Single};
-use policy::Policy;
+use policy::{Place, Policy};
 use refusal::Refusal;
 use status::{Cic, Group, Range};
 
-// What a group message is to each circuit that it names.
+// What a group message does to the circuits that it names.
 #[inline(always)]
-fn signal_of(what: Grouped, why: BlockType) -> Signal
-    ensures { result ≡ signal_of what why }
+fn effect_of(what: (Grouped, BlockType)) -> Effect
+    ensures { result ≡ Heard (signal_of what.0 what.1) }
 {
-    match what {
+    let (what, why) = what;
+    Effect::Heard(match what {
         Grouped::Cgb => Signal::Block(why),
         Grouped::Cgu => Signal::Unblock(why),
         Grouped::Cgba => Signal::BlockAck(why),
         Grouped::Cgua => Signal::UnblockAck(why),
-    }
-}
-
-// What a call message is to its circuit.
-#[inline(always)]
-fn call_signal(kind: CallKind, controlled: bool) -> Signal
-    ensures { result ≡ call_signal kind controlled }
-{
-    match kind {
-        CallKind::Iam => Signal::Iam(controlled),
-        CallKind::Acm | CallKind::Con | CallKind::Anm | CallKind::Cpg => Signal::Progress,
-    }
+    })
 }
 
 // Whether no reset and no release of ours waits for an RLC, and a call is on the circuit.
@@ -58,6 +55,22 @@ fn is_unexpected(circuit: Circuit) -> bool
     ensures { result ≡ is_unexpected circuit }
 {
     circuit.reset != Reset::Single && circuit.call.is_connected()
+}
+
+// The mask of the time slot at a place where a hardware block of ours stands there; time slot 0 has
+// none.
+#[inline(always)]
+fn standing_mask(place: Place, circuit: Circuit) -> u32
+    ensures { result
+        ≡ cond (nat_lt 0 (place.0 % SLOTS) && is_standing circuit.local.hardware)
+        (2 ^ (place.0 % SLOTS)) 0 }
+{
+    let slot = place.0 % SLOTS;
+    if slot > 0 && circuit.local.hardware.is_standing() {
+        1 << slot
+    } else {
+        0
+    }
 }
 
 // What a message for one circuit is answered by at once, from the record before.
@@ -148,30 +161,36 @@ impl Trunk {
         Ok(slots)
     }
 
-    // A message for one circuit that is answered at once, or not at all.
+    // A message for one circuit that is answered at once, or not at all. What it is and what it does
+    // come from closures, so that each has an instance of its own, and one small enough to be inlined.
     #[inline(always)]
-    fn hear_one<P: Policy, const CALLER: u8>(
+    fn hear_one<P: Policy, S: Fn() -> Signal, F: Fn(Circuit) -> Change>(
         self,
         cic: Cic,
-        signal: Signal,
+        signal: S,
+        change: F,
         table: &mut [Circuit],
         policy: &mut P,
         words: &mut [u32],
         octets: &mut [u8],
     ) -> Result<(usize, usize), Refusal>
+        requires callable { S.IsAlwaysCallable signal }
+        requires changes { F.IsAlwaysCallable change }
+        requires same { (s : Signals) (c : Record) (d : Changed) → S.post signal s
+            → F.post change c d → d ≡ on_signal s c }
         requires enough { Suffices self.config P.Policy.PLACES
             (lent table.old (P.Policy.held policy.old) words.old octets.old) }
-        ensures outcome { Outcome self.config
-            (λ before.
-            to_one self.config cic.0 (applied (rule.Signal signal)) (reply_to cic.0 signal)
-            before.table) result
+        ensures outcome { (s : Signals) → ((x : Signals) → S.post signal x → x ≡ s)
+            → Outcome self.config
+            (λ before. to_one self.config cic.0 (on_signal s) (reply_to cic.0 s) before.table) result
             (lent table.old (P.Policy.held policy.old) words.old octets.old)
             (lent table.new (P.Policy.held policy.new) words.new octets.new) }
         ensures policy { Tells P.Policy.obeys table.old table.new policy.old policy.new }
     {
         let place = self.find_equipped(cic, table)?;
+        let signal = signal();
         let circuit = table[place.0];
-        let told = self.change_at::<P, CALLER>(place, Rule::Signal(signal), table, policy, words);
+        let told = self.change_at(place, change(circuit), table, policy, words);
         Ok(reply(cic, signal, circuit, (told, 0), words, octets))
     }
 
@@ -196,28 +215,22 @@ impl Trunk {
     {
         let place = self.find_equipped(cic, table)?;
         let circuit = table[place.0];
-        let rule = Rule::Signal(Signal::Rsc);
-        let told = self.change_at::<P, 0x92>(place, rule, table, policy, words);
+        let told = self.change_at(place, Signal::Rsc.apply(circuit), table, policy, words);
         let written = reply(cic, Signal::Rsc, circuit, (told, 0), words, octets);
-        let due = Due {
-            slots: Slots::one(place),
-            effect: Effect::Every(rule),
-            condition: Condition::Standing(BlockType::Hardware),
-        };
+        let (system, mask) = (place.0 / SLOTS, standing_mask(place, circuit));
         let (what, why) = (Grouped::Cgb, BlockType::Hardware);
-        let system = place.0 / SLOTS;
-        let written = self.send_group(system, due, what, why, table, written, words, octets);
+        let written = self.send_mask(system, mask, what, why, written, words, octets);
         Ok(send(Message::ReleaseComplete(cic), written, words, octets))
     }
 
     // CGB, CGU, CGBA, CGUA: the effect at each circuit whose bit is set, and one answer, or one for
-    // each PCM system.
+    // each PCM system. What comes and its type are of a
+    // closure, so that each has an instance of its own.
     #[inline(never)]
-    fn hear_group<P: Policy>(
+    fn hear_group<P: Policy, W: Fn() -> (Grouped, BlockType)>(
         self,
         cic: Cic,
-        what: Grouped,
-        why: BlockType,
+        what: W,
         group: Group<'_>,
         table: &mut [Circuit],
         policy: &mut P,
@@ -226,22 +239,26 @@ impl Trunk {
     ) -> Result<(usize, usize), Refusal>
         requires enough { Suffices self.config P.Policy.PLACES
             (lent table.old (P.Policy.held policy.old) words.old octets.old) }
-        requires allowed { refusal_of
-            (grouped cic.0 what (indicator_of why) group.range.0 group.status.now)
+        requires callable { W.IsAlwaysCallable what }
+        requires allowed { (w : Kind × Why) → W.post what w → refusal_of
+            (grouped cic.0 w.0 (indicator_of w.1) group.range.0 group.status.now)
             ≡ None }
-        ensures outcome { Outcome self.config
+        ensures outcome { (w : Kind × Why) → ((x : Kind × Why) → W.post what x → x ≡ w)
+            → Outcome self.config
             (λ before.
             heard self.config
-            (grouped cic.0 what (indicator_of why) group.entry.range.0 group.entry.status.now)
+            (grouped cic.0 w.0 (indicator_of w.1) group.entry.range.0 group.entry.status.now)
             before.table) result
             (lent table.old (P.Policy.held policy.old) words.old octets.old)
             (lent table.new (P.Policy.held policy.new) words.new octets.new) }
         ensures policy { Tells P.Policy.obeys table.old table.new policy.old policy.new }
     {
         let slots = self.span(cic, group, table)?;
-        let effect = Effect::Marked(Rule::Signal(signal_of(what, why)));
-        let told = sweep::<P, 0x98>(self, slots, effect, table, policy, words);
-        match what {
+        let told = sweep(self, slots, || effect_of(what()), table, policy, words);
+        let heard = what();
+        let effect = effect_of(heard);
+        let (kind, why) = heard;
+        match kind {
             Grouped::Cgb => {
                 let answer = Message::Grouped(cic, Grouped::Cgba, why, group);
                 Ok(send(answer, (told, 0), words, octets))
@@ -293,8 +310,9 @@ impl Trunk {
         ensures policy { Tells P.Policy.obeys table.old table.new policy.old policy.new }
     {
         let slots = self.span(cic, Group { range, status: &[] }, table)?;
-        let effect = Effect::Every(Rule::Signal(Signal::Grs));
-        let told = sweep::<P, 0x97>(self, slots, effect, table, policy, words);
+        let effect = Effect::Every(Signal::Grs);
+        let every = || Effect::Every(Signal::Grs);
+        let told = sweep(self, slots, every, table, policy, words);
         let (what, why) = (Grouped::Cgb, BlockType::Hardware);
         let condition = Condition::Standing(why);
         let due = Due {
@@ -342,8 +360,214 @@ impl Trunk {
         if !slots.is_system() {
             return Ok((0, 0));
         }
-        let told = sweep::<P, 0xa9>(self, slots, Effect::Acknowledged, table, policy, words);
+        let told = sweep(self, slots, || Effect::Acknowledged, table, policy, words);
         Ok((told, 0))
+    }
+
+    // A message whose content is its CIC alone.
+    #[inline(always)]
+    fn hear_single<P: Policy>(
+        self,
+        cic: Cic,
+        kind: Single,
+        table: &mut [Circuit],
+        policy: &mut P,
+        words: &mut [u32],
+        octets: &mut [u8],
+    ) -> Result<(usize, usize), Refusal>
+        requires enough { Suffices self.config P.Policy.PLACES
+            (lent table.old (P.Policy.held policy.old) words.old octets.old) }
+        ensures outcome { Outcome self.config
+            (λ before. heard self.config (single cic.0 kind) before.table) result
+            (lent table.old (P.Policy.held policy.old) words.old octets.old)
+            (lent table.new (P.Policy.held policy.new) words.new octets.new) }
+        ensures policy { Tells P.Policy.obeys table.old table.new policy.old policy.new }
+    {
+        match kind {
+            Single::Rsc => self.hear_reset(cic, table, policy, words, octets),
+            Single::Blo => {
+                let signal = || Signal::Block(BlockType::Maintenance);
+                let change = |circuit: Circuit| circuit.far_blocked(BlockType::Maintenance);
+                self.hear_one(cic, signal, change, table, policy, words, octets)
+            }
+            Single::Ubl => {
+                let signal = || Signal::Unblock(BlockType::Maintenance);
+                let change = |circuit: Circuit| circuit.far_unblocked(BlockType::Maintenance);
+                self.hear_one(cic, signal, change, table, policy, words, octets)
+            }
+            Single::Bla => {
+                let signal = || Signal::BlockAck(BlockType::Maintenance);
+                let change = |circuit: Circuit| circuit.block_acknowledged(BlockType::Maintenance);
+                self.hear_one(cic, signal, change, table, policy, words, octets)
+            }
+            Single::Uba => {
+                let signal = || Signal::UnblockAck(BlockType::Maintenance);
+                let change = |circuit: Circuit| circuit.unblock_acknowledged(
+                    BlockType::Maintenance,
+                );
+                self.hear_one(cic, signal, change, table, policy, words, octets)
+            }
+        }
+    }
+
+    // A call message.
+    #[inline(always)]
+    fn hear_call<P: Policy>(
+        self,
+        cic: Cic,
+        kind: CallKind,
+        table: &mut [Circuit],
+        policy: &mut P,
+        words: &mut [u32],
+        octets: &mut [u8],
+    ) -> Result<(usize, usize), Refusal>
+        requires enough { Suffices self.config P.Policy.PLACES
+            (lent table.old (P.Policy.held policy.old) words.old octets.old) }
+        ensures outcome { (body : List ℕ) → Outcome self.config
+            (λ before. heard self.config (call cic.0 kind body) before.table) result
+            (lent table.old (P.Policy.held policy.old) words.old octets.old)
+            (lent table.new (P.Policy.held policy.new) words.new octets.new) }
+        ensures policy { Tells P.Policy.obeys table.old table.new policy.old policy.new }
+    {
+        match kind {
+            CallKind::Iam => {
+                let controlled = self.controls(cic);
+                let change = |circuit: Circuit| circuit.called(controlled);
+                let signal = || Signal::Iam(controlled);
+                self.hear_one(cic, signal, change, table, policy, words, octets)
+            }
+            CallKind::Acm | CallKind::Con | CallKind::Anm | CallKind::Cpg => {
+                let change = |circuit: Circuit| circuit.progressed();
+                self.hear_one(
+                    cic,
+                    || Signal::Progress,
+                    change,
+                    table,
+                    policy,
+                    words,
+                    octets,
+                )
+            }
+        }
+    }
+
+    // One of them, by its type.
+    #[inline(always)]
+    fn hear_typed<P: Policy, W: Fn() -> Grouped>(
+        self,
+        cic: Cic,
+        what: W,
+        why: BlockType,
+        group: Group<'_>,
+        table: &mut [Circuit],
+        policy: &mut P,
+        words: &mut [u32],
+        octets: &mut [u8],
+    ) -> Result<(usize, usize), Refusal>
+        requires enough { Suffices self.config P.Policy.PLACES
+            (lent table.old (P.Policy.held policy.old) words.old octets.old) }
+        requires callable { W.IsAlwaysCallable what }
+        requires allowed { (w : Kind) → W.post what w → refusal_of
+            (grouped cic.0 w (indicator_of why) group.range.0 group.status.now)
+            ≡ None }
+        ensures outcome { (w : Kind) → ((x : Kind) → W.post what x → x ≡ w) → Outcome self.config
+            (λ before.
+            heard self.config
+            (grouped cic.0 w (indicator_of why) group.entry.range.0 group.entry.status.now)
+            before.table) result
+            (lent table.old (P.Policy.held policy.old) words.old octets.old)
+            (lent table.new (P.Policy.held policy.new) words.new octets.new) }
+        ensures policy { Tells P.Policy.obeys table.old table.new policy.old policy.new }
+    {
+        match why {
+            BlockType::Maintenance => {
+                let what = || (what(), BlockType::Maintenance);
+                self.hear_group(cic, what, group, table, policy, words, octets)
+            }
+            BlockType::Hardware => {
+                let what = || (what(), BlockType::Hardware);
+                self.hear_group(cic, what, group, table, policy, words, octets)
+            }
+        }
+    }
+
+    // One of them, by what it is.
+    #[inline(always)]
+    fn hear_grouped<P: Policy>(
+        self,
+        cic: Cic,
+        what: Grouped,
+        why: BlockType,
+        group: Group<'_>,
+        table: &mut [Circuit],
+        policy: &mut P,
+        words: &mut [u32],
+        octets: &mut [u8],
+    ) -> Result<(usize, usize), Refusal>
+        requires enough { Suffices self.config P.Policy.PLACES
+            (lent table.old (P.Policy.held policy.old) words.old octets.old) }
+        requires allowed { refusal_of
+            (grouped cic.0 what (indicator_of why) group.range.0 group.status.now)
+            ≡ None }
+        ensures outcome { Outcome self.config
+            (λ before.
+            heard self.config
+            (grouped cic.0 what (indicator_of why) group.entry.range.0 group.entry.status.now)
+            before.table) result
+            (lent table.old (P.Policy.held policy.old) words.old octets.old)
+            (lent table.new (P.Policy.held policy.new) words.new octets.new) }
+        ensures policy { Tells P.Policy.obeys table.old table.new policy.old policy.new }
+    {
+        match what {
+            Grouped::Cgb => {
+                self.hear_typed(
+                    cic,
+                    || Grouped::Cgb,
+                    why,
+                    group,
+                    table,
+                    policy,
+                    words,
+                    octets,
+                )
+            }
+            Grouped::Cgu => {
+                self.hear_typed(
+                    cic,
+                    || Grouped::Cgu,
+                    why,
+                    group,
+                    table,
+                    policy,
+                    words,
+                    octets,
+                )
+            }
+            Grouped::Cgba => {
+                self.hear_typed(
+                    cic,
+                    || Grouped::Cgba,
+                    why,
+                    group,
+                    table,
+                    policy,
+                    words,
+                    octets,
+                )
+            }
+            Grouped::Cgua => {
+                self.hear_typed(
+                    cic,
+                    || Grouped::Cgua,
+                    why,
+                    group,
+                    table,
+                    policy,
+                    words,
+                    octets,
+                )
+            }
+        }
     }
 
     // A message that was read.
@@ -365,33 +589,23 @@ impl Trunk {
             (lent table.new (P.Policy.held policy.new) words.new octets.new) }
         ensures policy { Tells P.Policy.obeys table.old table.new policy.old policy.new }
     {
-        let why = BlockType::Maintenance;
         match message {
-            Message::Single(cic, Single::Rsc) => self.hear_reset(cic, table, policy, words, octets),
-            Message::Single(cic, Single::Blo) => {
-                self.hear_one::<P, 0x93>(cic, Signal::Block(why), table, policy, words, octets)
-            }
-            Message::Single(cic, Single::Ubl) => {
-                self.hear_one::<P, 0x94>(cic, Signal::Unblock(why), table, policy, words, octets)
-            }
-            Message::Single(cic, Single::Bla) => {
-                self.hear_one::<P, 0x95>(cic, Signal::BlockAck(why), table, policy, words, octets)
-            }
-            Message::Single(cic, Single::Uba) => {
-                self.hear_one::<P, 0x96>(cic, Signal::UnblockAck(why), table, policy, words, octets)
+            Message::Single(cic, kind) => {
+                self.hear_single(cic, kind, table, policy, words, octets)
             }
             Message::ReleaseComplete(cic) => {
-                self.hear_one::<P, 0x90>(cic, Signal::Rlc, table, policy, words, octets)
+                let change = |circuit: Circuit| circuit.completed();
+                self.hear_one(cic, || Signal::Rlc, change, table, policy, words, octets)
             }
             Message::Release(cic, _) => {
-                self.hear_one::<P, 0x8c>(cic, Signal::Rel, table, policy, words, octets)
+                let change = |circuit: Circuit| circuit.far_released();
+                self.hear_one(cic, || Signal::Rel, change, table, policy, words, octets)
             }
             Message::Call(cic, kind, _) => {
-                let signal = call_signal(kind, self.controls(cic));
-                self.hear_one::<P, 0x81>(cic, signal, table, policy, words, octets)
+                self.hear_call(cic, kind, table, policy, words, octets)
             }
             Message::Grouped(cic, what, why, group) => {
-                self.hear_group(cic, what, why, group, table, policy, words, octets)
+                self.hear_grouped(cic, what, why, group, table, policy, words, octets)
             }
             Message::GroupReset(cic, range) => {
                 self.hear_group_reset(cic, range, table, policy, words, octets)

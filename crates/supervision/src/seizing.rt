@@ -51,6 +51,7 @@ impl Trunk {
         let place = pick(table, policy)?;
         let cic = self.cic_at(place);
         let message = Message::Call(cic, CallKind::Iam, body);
-        Ok(self.perform_at::<P, 0x01>(place, Rule::Seize, message, table, policy, words, octets))
+        let change = Rule::Seize.apply(table[place.0]);
+        Ok(self.perform_at(place, change, message, table, policy, words, octets))
     }
 }

@@ -3,7 +3,7 @@
 ghost use Rattle.std.specs.Prelude.{◌≡◌, ◌+◌, ◌<◌, ◌≤◌, List, ℕ, length, Some};
 ghost use Rattle.supervision.specs.Due.{is_due};
 ghost use Rattle.supervision.specs.Expiring.{alerting};
-ghost use Rattle.supervision.specs.Groups.{group_for, groups};
+ghost use Rattle.supervision.specs.Groups.{asking, groups};
 ghost use Rattle.supervision.specs.Steps.{sending, Extends};
 ghost use Rattle.supervision.specs.Trunks.{places};
 
@@ -37,15 +37,14 @@ pub(crate) fn alert(
 }
 
 impl Trunk {
-    // Sends our group message for the circuits of a PCM system that are due, if there are any.
+    // Sends our group message for the time slots of a mask, if it has any.
     #[inline(always)]
-    pub(crate) fn send_group(
+    pub(crate) fn send_mask(
         self,
         system: usize,
-        due: Due<'_>,
+        mask: u32,
         what: Grouped,
         why: BlockType,
-        table: &[Circuit],
         written: (usize, usize),
         words: &mut [u32],
         octets: &mut [u8],
@@ -55,15 +54,13 @@ impl Trunk {
         requires room { written.1 + 11 ≤ OCTETS }
         requires words { WORDS ≤ length words.old }
         requires octets { OCTETS ≤ length octets.old }
-        ensures sends { Extends
-            (sending (group_for self.config what why (is_due due.entry) system table.now)) written
+        ensures sends { Extends (sending (asking self.config what why system mask)) written
             words.old octets.old result words.new octets.new }
         ensures told { result.0 ≤ written.0 + 1 }
         ensures sent { result.1 ≤ written.1 + 11 }
         ensures words { length words.new ≡ length words.old }
         ensures octets { length octets.new ≡ length octets.old }
     {
-        let mask = due.mask(system, table);
         if mask == 0 {
             return written;
         }
@@ -85,6 +82,7 @@ impl Trunk {
         words: &mut [u32],
         octets: &mut [u8],
     ) -> (usize, usize)
+        requires table { length table.now ≡ places self.config }
         requires inside { due.slots.first.0 + due.slots.group.range.0 < places self.config }
         requires word { written.0 + 16 ≤ WORDS }
         requires room { written.1 + 176 ≤ OCTETS }
@@ -101,7 +99,8 @@ impl Trunk {
         let mut written = written;
         let last = due.slots.first.0 + due.slots.group.range.0 as usize;
         for system in due.slots.first.0 / SLOTS..last / SLOTS + 1 {
-            written = self.send_group(system, due, what, why, table, written, words, octets);
+            let mask = due.mask(system, table);
+            written = self.send_mask(system, mask, what, why, written, words, octets);
         }
         written
     }

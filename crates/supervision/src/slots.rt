@@ -1,16 +1,15 @@
 // Circuits of the table that a status names.
-ghost use Rattle.std.specs.Prelude.{◌≡◌, ◌+◌, ◌%◌, ◌<◌, Bool, not, ◌&&◌, ◌==◌, length, Ok};
+ghost use Rattle.std.specs.Prelude.{◌≡◌, ℕ, ◌+◌, ◌/◌, ◌%◌, ◌^◌, ◌<◌, ◌≤◌, Bool, not, ◌&&◌, ◌==◌, nat_le, length, slice_index, Ok};
 ghost use Rattle.circuit.specs.Laws.{allows};
-ghost use Rattle.circuit.specs.Orders.{applied};
 ghost use Rattle.refusal.specs.Refusals.{unless};
 ghost use Rattle.refusal.specs.declared.reasons.Refusal.TheVariants.{Address, State};
-ghost use Rattle.status.specs.Bits.{is_named};
+ghost use Rattle.status.specs.Bits.{bit_at, is_named};
 ghost use Rattle.supervision.specs.Moves.{some_from};
 ghost use Rattle.supervision.specs.Steps.{named_by, touched, rule_by};
 
 use crate::group::RANGE;
 use crate::limits::SLOTS;
-use circuit::{Circuit, Rule, Signal};
+use circuit::{Change, Circuit, Rule, Signal};
 use policy::Place;
 use refusal::Refusal;
 use status::{Group, Range};
@@ -18,10 +17,12 @@ use status::{Group, Range};
 // What is done to the circuits of a range.
 #[derive(Clone, Copy)]
 pub(crate) enum Effect {
-    // the rule, where the status bit is set
+    // an order, where the status bit is set
     Marked(Rule),
-    // the rule, at each circuit
-    Every(Rule),
+    // a message, where the status bit is set
+    Heard(Signal),
+    // a message, at each circuit
+    Every(Signal),
     // at each circuit, what GRA does with its status bit
     Acknowledged,
 }
@@ -34,21 +35,6 @@ pub(crate) struct Slots<'a> {
 }
 
 impl Slots<'_> {
-    // One circuit, with no status.
-    #[inline(always)]
-    pub(crate) fn one(place: Place) -> Slots<'static>
-        ensures first { result.first.0 ≡ place.0 }
-        ensures range { result.group.range.0 ≡ 0 }
-    {
-        Slots {
-            first: place,
-            group: Group {
-                range: Range(0),
-                status: &[],
-            },
-        }
-    }
-
     // Whether they are a whole PCM system, from time slot 1 with range 30.
     #[inline(always)]
     pub(crate) fn is_system(self) -> bool
@@ -72,20 +58,84 @@ impl Slots<'_> {
         ensures { result ≡ touched effect self.entry (self.entry.first.0 + n) }
     {
         match effect {
-            Effect::Marked(_) => self.names(n),
+            Effect::Marked(_) | Effect::Heard(_) => self.names(n),
             Effect::Every(_) | Effect::Acknowledged => n <= self.group.range.0,
         }
     }
 
-    // What it does there.
+    // An octet of the status.
     #[inline(always)]
-    pub(crate) fn rule(self, effect: Effect, n: u8) -> Rule
-        ensures { (c : Circuit) → applied result c
-            ≡ rule_by effect self.entry (self.entry.first.0 + n) c }
+    fn octet(self, i: usize) -> u32
+        ensures value { result ≡ slice_index self.entry.group.status.now i }
+        ensures small { result < 256 }
+    {
+        u32::from(self.group.status.get(i).copied().unwrap_or(0))
+    }
+
+    // A bit for each of the 32 circuits of the range from the n-th on, set where its status bit is; n is
+    // a multiple of 8.
+    #[inline(always)]
+    fn word(self, n: usize) -> u32
+        requires { n % 8 ≡ 0 }
+        ensures { (j : ℕ) → j < 32
+            → result / 2 ^ j % 2 ≡ bit_at self.entry.group.status.now (n + j) }
+    {
+        let i = n / 8;
+        self.octet(i)
+            + (self.octet(i + 1) << 8)
+            + (self.octet(i + 2) << 16)
+            + (self.octet(i + 3) << 24)
+    }
+
+    // Of the bits of 32 circuits from the n-th on, which is of the range, those of the range.
+    #[inline(always)]
+    fn within(self, bits: u32, n: usize) -> u32
+        requires { n ≤ self.group.range.0 }
+        ensures { (j : ℕ) → j < 32
+            → (result / 2 ^ j % 2 == 1)
+            ≡ (nat_le (n + j) self.entry.group.range.0 && bits / 2 ^ j % 2 == 1) }
+    {
+        let last = self.group.range.0 as usize - n;
+        if last < 31 {
+            return bits % (2 << last);
+        }
+        bits
+    }
+
+    // A bit for each of 32 circuits from the n-th on, set where it is of the range and named.
+    #[inline(always)]
+    fn named(self, n: usize) -> u32
+        requires start { n % 8 ≡ 0 }
+        requires inside { n ≤ self.group.range.0 }
+        ensures { (j : ℕ) → j < 32
+            → (result / 2 ^ j % 2 == 1) ≡ named_by self.entry (self.entry.first.0 + (n + j)) }
+    {
+        self.within(self.word(n), n)
+    }
+
+    // The same of the circuits to which an effect does something.
+    #[inline(always)]
+    pub(crate) fn touched(self, effect: Effect, n: usize) -> u32
+        requires start { n % 8 ≡ 0 }
+        requires inside { n ≤ self.group.range.0 }
+        ensures { (j : ℕ) → j < 32
+            → (result / 2 ^ j % 2 == 1) ≡ touched effect self.entry (self.entry.first.0 + (n + j)) }
     {
         match effect {
-            Effect::Marked(rule) | Effect::Every(rule) => rule,
-            Effect::Acknowledged => Rule::Signal(Signal::Gra(self.names(n))),
+            Effect::Marked(_) | Effect::Heard(_) => self.named(n),
+            Effect::Every(_) | Effect::Acknowledged => self.within(u32::MAX, n),
+        }
+    }
+
+    // What it makes of the circuit there.
+    #[inline(always)]
+    pub(crate) fn apply(self, effect: Effect, n: u8, circuit: Circuit) -> Change
+        ensures { result ≡ rule_by effect self.entry (self.entry.first.0 + n) circuit }
+    {
+        match effect {
+            Effect::Marked(rule) => rule.apply(circuit),
+            Effect::Heard(signal) | Effect::Every(signal) => signal.apply(circuit),
+            Effect::Acknowledged => Signal::Gra(self.names(n)).apply(circuit),
         }
     }
 
@@ -97,10 +147,24 @@ impl Slots<'_> {
         ensures { (p : Circuit → Bool) → ((c : Circuit) (r : Bool) → F.post passes c r → r ≡ p c)
             → result ≡ not (some_from (λ k c. named_by self.entry k && not (p c)) 0 table.now) }
     {
-        table[self.first.0..=self.first.0 + self.group.range.0 as usize]
-            .iter()
-            .enumerate()
-            .all(|(n, circuit)| !self.names(n as u8) || passes(*circuit))
+        let end = self.group.range.0 as usize + 1;
+        let mut past = 0;
+        while past < end {
+            let bits = self.named(past);
+            let mut n = past;
+            let mut rest = bits;
+            while rest != 0 {
+                let skipped = rest.trailing_zeros();
+                n += skipped as usize;
+                if !passes(table[self.first.0 + n]) {
+                    return false;
+                }
+                n += 1;
+                rest = rest >> skipped >> 1;
+            }
+            past = end.min(past + 32);
+        }
+        true
     }
 
     // Whether an order may name them.

@@ -1,4 +1,4 @@
-use Rattle.std.proofs.Common.{◌≡◌, ℕ, ◌+◌, ◌*◌, Bool, false, leb, Ok, refl, ap, ◌∙◌, subst, add_assoc, arith}
+use Rattle.std.proofs.Common.{◌≡◌, ℕ, ◌+◌, ◌*◌, Bool, false, leb, Ok, refl, ap, ◌∙◌, subst, add_assoc, arith, rules}
 use Rattle.std.proofs.lemmas.Bool.{lt-leb}
 use Rattle.message.specs.Msg.{Msg, group_reset}
 use Rattle.circuit.proofs.Keeping.{order_keeps}
@@ -30,7 +30,7 @@ returns g c =
     let all : ordered covered rule (group_reset (t.first.0 + (system * 32 + 1)) 30) ≡ move =
     ap (λ (m : Msg). ordered covered rule m) sent ∙ ap (λ (f : ℕ → Bool). ordered f rule msg) names in
     let status : c.slots_of-slots.result.group.status.now ≡ status_of every_slot = c.slots_of-slots.ensures.status in
-    let done = subst (λ (m : Move). Performed t m c.perform.result before after) all (rw (c.cic_at.ensures, c.slots_of-slots.ensures.first, c.slots_of-slots.ensures.range, status) at c.perform.ensures.done) in
+    let done = subst (λ (m : Move). Performed t m c.perform.result before after) all (rw (c.cic_at.ensures, c.slots_of-slots.ensures.first, c.slots_of-slots.ensures.range, status) at (c.perform.ensures.done rule (λ x p. search rules))) in
     let a : clearing t system ≡ Ok move = rw far refl in
     record {
       policy = c.perform.ensures.policy;

@@ -1,4 +1,4 @@
-use Rattle.std.proofs.Common.{◌≡◌, ◌-◌, true, false, eqb, [], ◌∷◌, Ok, sym, refl, ◌∙◌}
+use Rattle.std.proofs.Common.{◌≡◌, ◌-◌, true, false, not, eqb, [], ◌∷◌, Ok, sym, refl, ap, ◌∙◌}
 use Rattle.message.specs.Msg.{single}
 use Rattle.message.specs.declared.kinds.Single.TheVariants.{Rsc}
 use Rattle.circuit.specs.Circuits.{is_releasing}
@@ -46,12 +46,12 @@ returns-clause-outcome g c =
     let v = found here.equipped c.in_ok-place.place (record { 0 = n - t.first.0 }) c.in_ok-place.ensures.value in
     let at : here ≡ placed T (n - t.first.0) = at_place t c.args.cic T v.0 in
     let busy : is_releasing here.call ≡ true = rw (at, ← v.1) (sym c.holds.ensures ∙ c.if-not-holds.false) in
-    let may : allows (Reset reset.Single) here ≡ true = rw (at, ← v.1) (sym c.allows.ensures ∙ c.if-not-allows.false) in
+    let may : allows (Reset reset.Single) here ≡ true = rw (at, ← v.1) (ap not (sym c.is_group.ensures ∙ c.if-is_group.false)) in
     let first = moving (λ k. eqb k c.in_ok-place.place.0) (λ _. applied (Reset reset.Single)) [] in
     let m = alerting (alert_at T5 n) (ordered (only t c.args.cic) (Reset reset.Single) (single n Rsc)) in
     let accepted : gives_up t n T ≡ Ok m = rw (v.0, busy, may) refl in
     let done = c.alert.ensures.alerts c.send-written.new.octets t (sending (single n Rsc ∷ []) first) before U H refl
-    (c.send-written.ensures.sends t first before U H refl (c.change_at-told.ensures.done c.args.octets.now)) in
+    (c.send-written.ensures.sends t first before U H refl (c.change_at-told.ensures.done (applied (Reset reset.Single)) c.apply-change.ensures.value c.args.octets.now)) in
     outcome_of t (λ (b : Lent). gives_up t n b.table) m c.alert.result before after
     (rw (g.met.P.Policy.sized c.args.policy.now) c.requires.enough.places)
     (given_up t n T m accepted) accepted

@@ -1,11 +1,12 @@
-use Rattle.supervision.specs.Lending.{lent}
-use Rattle.supervision.proofs.Ranges.{call_outcome}
+use Rattle.std.proofs.Common.{rules}
+use Rattle.circuit.specs.declared.signals.Signal.TheVariants.{Rel, Rlc}
 use Rattle.supervision.proofs.trunk.Trunk.hear.Goals as goal
 
+pub returns-in-ReleaseComplete-clause-outcome : goal.returns-in-ReleaseComplete-clause-outcome
+returns-in-ReleaseComplete-clause-outcome g c = rw c.in-ReleaseComplete.is (c.hear_one.ensures.outcome Rlc (λ x p. search rules))
+
+pub returns-in-Release-clause-outcome : goal.returns-in-Release-clause-outcome
+returns-in-Release-clause-outcome g c = rw c.in-Release.is (c.hear_one-in-Release.ensures.outcome Rel (λ x p. search rules))
+
 pub returns-in-Call-clause-outcome : goal.returns-in-Call-clause-outcome
-returns-in-Call-clause-outcome g c =
-    rw c.in-Call.is
-    (call_outcome c.args.self.config c.in-Call.cic.0 c.in-Call.kind c.in-Call.field-2.now c.hear_one-in-Call.result
-    (lent c.args.table.now (g.P.Policy.held c.args.policy.now) c.args.words.now c.args.octets.now)
-    (lent c.hear_one-in-Call.new.table (g.P.Policy.held c.hear_one-in-Call.new.policy) c.hear_one-in-Call.new.words c.hear_one-in-Call.new.octets)
-    (rw (c.controls.ensures) at (rw c.call_signal-signal.ensures at c.hear_one-in-Call.ensures.outcome)))
+returns-in-Call-clause-outcome g c = rw c.in-Call.is (c.hear_call.ensures.outcome c.in-Call.field-2.now)

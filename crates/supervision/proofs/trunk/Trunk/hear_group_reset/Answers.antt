@@ -1,4 +1,4 @@
-use Rattle.std.proofs.Common.{◌≡◌, ℕ, ◌+◌, List, [], ◌∷◌, ◌++◌, not, ◌&&◌, take, sym, refl, ap, ◌∙◌, subst, Bool, arith}
+use Rattle.std.proofs.Common.{◌≡◌, ℕ, ◌+◌, List, [], ◌∷◌, ◌++◌, not, ◌&&◌, take, sym, refl, ap, ◌∙◌, subst, Bool, arith, rules}
 use Rattle.std.proofs.lemmas.List.{length-take-le}
 use Rattle.status.specs.declared.group.Group.{Group}
 use Rattle.message.specs.Msg.{Msg, group_reset, group_reset_ack}
@@ -7,7 +7,6 @@ use Rattle.message.specs.declared.kinds.Grouped.TheVariants.{Cgb}
 use Rattle.circuit.specs.Circuits.{is_standing}
 use Rattle.circuit.specs.Signals.{on_grs}
 use Rattle.circuit.specs.declared.record.Circuit.{Circuit}
-use Rattle.circuit.specs.declared.rules.Rule.TheVariants.{Signal}
 use Rattle.circuit.specs.declared.signals.Signal.TheVariants as signal
 use Rattle.supervision.specs.declared.slots.Effect.TheVariants.{Every}
 use Rattle.supervision.specs.declared.due.Condition.TheVariants.{Standing}
@@ -63,9 +62,9 @@ returns-clause-outcome g c =
     let act = λ (_ : ℕ). on_grs in
     let first = moving (in_range t n r) act [] in
     let swept = subst (λ (f : ℕ → Bool). Performed t (moving f act []) (c.sweep-told.result, 0) before (lent U H c.sweep-told.new.words c.args.octets.now)) (spans_range t n r s at e)
-    (c.sweep-told.ensures.done c.args.octets.now) in
+    (c.sweep-told.ensures.done (Every signal.Grs) (λ x p. search rules) c.args.octets.now) in
     let table : U ≡ table_of first T = ap (λ (l : Lent). l.table) swept.carries in
-    let asked = groups t Cgb Hardware (is_due (record { slots = s; effect = Every (Signal signal.Grs); condition = Standing Hardware })) U in
+    let asked = groups t Cgb Hardware (is_due (record { slots = s; effect = Every signal.Grs; condition = Standing Hardware })) U in
     let status = take c.status_octets.result c.to_le_bytes-bits.result in
     let q = λ (j : ℕ). shows (circuit_of t (as_cic (n + j)) T) in
     let shown : status ≡ status_by q r =

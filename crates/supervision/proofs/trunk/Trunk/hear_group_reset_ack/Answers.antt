@@ -1,8 +1,9 @@
-use Rattle.std.proofs.Common.{◌≡◌, ℕ, ◌-◌, Bool, true, false, not, ◌&&◌, [], refl, sym, ap, ◌∙◌, subst}
+use Rattle.std.proofs.Common.{◌≡◌, ℕ, ◌-◌, Bool, true, false, not, ◌&&◌, [], refl, sym, ap, ◌∙◌, subst, rules}
 use Rattle.status.specs.Bits.{is_named}
 use Rattle.status.specs.declared.group.Group.{Group}
 use Rattle.message.specs.Msg.{group_reset_ack}
 use Rattle.circuit.specs.Signals.{on_gra}
+use Rattle.supervision.specs.declared.slots.Effect.TheVariants.{Acknowledged}
 use Rattle.supervision.specs.Lending.{Performed, lent}
 use Rattle.supervision.specs.Moves.{some_from}
 use Rattle.supervision.specs.Receiving.{moving, nothing, is_range, in_range, is_counted, marked}
@@ -42,7 +43,7 @@ returns-clause-outcome g c =
     let e = ap (λ (x : Group). x.range.0) c.in_ok-slots.ensures.group in
     let counts : is_counted t n r ≡ true = rw (← at, ← e) (sym c.is_system.ensures ∙ c.if-not-is_system.false) in
     let act = λ (k : ℕ). on_gra (is_named r s (k - (n - t.first.0))) in
-    let swept = rw (c.in_ok-slots.ensures.group, at) at (c.sweep-told.ensures.done c.args.octets.now) in
+    let swept = rw (c.in_ok-slots.ensures.group, at) at (c.sweep-told.ensures.done Acknowledged (λ x p. search rules) c.args.octets.now) in
     range_outcome t (group_reset_ack n r s) n r s (moving (in_range t n r) act []) (c.sweep-told.result, 0) before after (rw counts refl) v.0 v.1
     (rw (g.met.P.Policy.sized c.args.policy.now) c.requires.enough.places)
     (subst (λ (f : ℕ → Bool). Performed t (moving f act []) (c.sweep-told.result, 0) before after)

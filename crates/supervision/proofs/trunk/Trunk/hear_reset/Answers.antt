@@ -4,16 +4,10 @@ use Rattle.message.specs.declared.kinds.BlockType.TheVariants.{Hardware}
 use Rattle.message.specs.declared.kinds.Grouped.TheVariants.{Cgb}
 use Rattle.message.specs.declared.kinds.Single.TheVariants.{Rsc}
 use Rattle.circuit.specs.Signals.{on_rsc}
-use Rattle.circuit.specs.declared.rules.Rule.TheVariants.{Signal}
 use Rattle.circuit.specs.declared.signals.Signal.TheVariants as signal
 use Rattle.circuit.proofs.Keeping.{rsc_keeps}
-use Rattle.supervision.specs.declared.due.Condition.TheVariants.{Standing}
-use Rattle.supervision.specs.declared.due.Due.{Due}
-use Rattle.supervision.specs.declared.slots.Effect.TheVariants.{Every}
-use Rattle.supervision.specs.Due.{is_due}
-use Rattle.supervision.specs.Groups.{group_for}
+use Rattle.supervision.specs.Groups.{asking}
 use Rattle.supervision.specs.Lending.{Lent, Performed, lent}
-use Rattle.supervision.specs.Moves.{table_of}
 use Rattle.supervision.specs.Orders.{circuit_of, only}
 use Rattle.supervision.specs.Receiving.{moving, ask_again, heard}
 use Rattle.supervision.specs.Replies.{reply_to}
@@ -22,7 +16,7 @@ use Rattle.supervision.specs.Trunks.{placed}
 use Rattle.supervision.proofs.Allowing.{at_place}
 use Rattle.supervision.proofs.Finishing.{found}
 use Rattle.supervision.proofs.Keeping.{outcome_of}
-use Rattle.supervision.proofs.Resets.{asked_after}
+use Rattle.supervision.proofs.Resets.{asked_again}
 use Rattle.supervision.proofs.trunk.Trunk.hear_reset.Goals as goal
 
 pub returns-clause-outcome : goal.returns-clause-outcome
@@ -39,16 +33,15 @@ returns-clause-outcome g c =
     let at : here ≡ placed T (n - t.first.0) = at_place t c.args.cic T v.0 in
     let act = λ (_ : ℕ). on_rsc in
     let first = moving (only t c.args.cic) act [] in
-    let due : Due = record { slots = c.one.result; effect = Every (Signal signal.Rsc); condition = Standing Hardware } in
-    let told = rw v.1 at (c.change_at-told.ensures.done c.args.octets.now) in
-    let table : U ≡ table_of first T = ap (λ (l : Lent). l.table) told.carries in
+    let told = rw v.1 at (c.change_at-told.ensures.done on_rsc c.apply.ensures.value c.args.octets.now) in
     let replies = reply_to n signal.Rsc here in
     let answered : Performed t (sending replies first) c.reply-written.result before (lent U H c.reply-written.new.words c.reply-written.new.octets) =
     rw at (rw v.1 at (c.reply-written.ensures.sends t first before U H refl told)) in
-    let again = group_for t Cgb Hardware (is_due due) ((n - t.first.0) / 32) U in
-    let asked = rw v.1 at (c.send_group-written.ensures.sends t (sending replies first) before U H refl answered) in
-    let done = c.send.ensures.sends t (sending again (sending replies first)) before U H refl asked in
-    let same : again ≡ ask_again t n T = asked_after t n c.one.result T U (c.one.ensures.first ∙ v.1) c.one.ensures.range (rw (← at) v.0) table in
+    let mask = c.standing_mask-mask.result in
+    let again = asking t Cgb Hardware (c.in_ok-place.place.0 / 32) mask in
+    let done = c.send.ensures.sends t (sending again (sending replies first)) before U H refl
+    (c.send_mask-written.ensures.sends t (sending replies first) before U H refl answered) in
+    let same : again ≡ ask_again t n T = rw (v.1, c.standing_mask-mask.ensures, ← asked_again t n T c.in_ok-place.place.0 v.1) refl in
     let m = moving (only t c.args.cic) act (replies ++ (ask_again t n T ++ (release_complete n ∷ []))) in
     outcome_of t (λ (b : Lent). heard t (single n Rsc) b.table) m c.send.result before after
     (rw (g.met.P.Policy.sized c.args.policy.now) c.requires.enough.places)

@@ -1,5 +1,7 @@
 use Rattle.std.proofs.Common.{None, rules}
-use Rattle.circuit.specs.declared.rules.Rule.TheVariants.{Block, Unblock}
+use Rattle.message.specs.declared.kinds.BlockType.TheVariants.{Maintenance}
+use Rattle.circuit.specs.declared.record.Reset.TheVariants as reset
+use Rattle.circuit.specs.declared.rules.Rule.TheVariants.{Block, Unblock, Reset}
 use Rattle.supervision.specs.Lending.{lent}
 use Rattle.supervision.proofs.Asking.{seized}
 use Rattle.supervision.proofs.trunk.Trunk.order.Goals as goal
@@ -10,6 +12,21 @@ returns-in-Seize g c =
     let after = lent c.seize.new.table (g.P.Policy.held c.seize.new.policy) c.seize.new.words c.seize.new.octets in
     let w = seized g.P.Policy.picks g.P.Policy.obeys c.args.self.config g.P.Policy.PLACES c.in-Seize.body.now c.seize.result before after c.args.policy.now c.seize.new.policy c.seize.ensures in
     rw c.in-Seize.is (record { choice = w.0; by_policy = w.1; outcome = w.2; told = w.3; fair = w.4; alone = tt })
+
+pub returns-in-Block : goal.returns-in-Block
+returns-in-Block g c =
+    let h = c.order_single.ensures.outcome (Block Maintenance) (λ x p. search rules) in
+    search (rules, h)
+
+pub returns-in-Unblock : goal.returns-in-Unblock
+returns-in-Unblock g c =
+    let h = c.order_single-in-Unblock.ensures.outcome (Unblock Maintenance) (λ x p. search rules) in
+    search (rules, h)
+
+pub returns-in-Reset : goal.returns-in-Reset
+returns-in-Reset g c =
+    let h = c.order_single-in-Reset.ensures.outcome (Reset reset.Single) (λ x p. search rules) in
+    search (rules, h)
 
 pub returns-in-GroupBlock : goal.returns-in-GroupBlock
 returns-in-GroupBlock g c =

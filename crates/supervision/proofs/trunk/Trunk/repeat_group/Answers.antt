@@ -32,7 +32,7 @@ returns-then-mask-eq0 c = λ H l.
     let T = c.args.table.now in
     let p = λ (_ : ℕ) (x : Circuit). x.equipped && holds c.args.condition x in
     let zero : mask_by p c.args.system T ≡ 0 =
-    sym (mask_same (is_due c.of_system.result) p c.args.system T T (λ k e. c.of_system.ensures k (placed T k) e)) ∙ (sym c.mask-mask.ensures ∙ c.if-mask-eq0.true) in
+    sym (mask_same (is_due c.of_system.result) p c.args.system T T (λ k e. c.of_system.ensures.due k (placed T k) e)) ∙ (sym c.mask-mask.ensures ∙ c.if-mask-eq0.true) in
     outcome_nothing t
     (λ (b : Lent). unless (leb t.systems c.args.system) Address (Ok (cond (eqb (mask_by p c.args.system b.table) 0) nothing (repeating (group_for t c.args.what c.args.why p c.args.system b.table) (alert_for c.args.timer (first_of t c.args.system))))))
     (lent T H c.args.words.now c.args.octets.now) l
@@ -46,7 +46,7 @@ returns c = λ H l.
     let p = λ (_ : ℕ) (x : Circuit). x.equipped && holds c.args.condition x in
     let mask = mask_by p system T in
     let is : c.mask-mask.result ≡ mask =
-    c.mask-mask.ensures ∙ mask_same (is_due c.of_system.result) p system T T (λ k e. c.of_system.ensures k (placed T k) e) in
+    c.mask-mask.ensures ∙ mask_same (is_due c.of_system.result) p system T T (λ k e. c.of_system.ensures.due k (placed T k) e) in
     let some : eqb mask 0 ≡ false = ne_eqb mask 0 (λ e. c.if-mask-eq0.false (is ∙ e)) in
     let before = lent T H c.args.words.now c.args.octets.now in
     let after = lent T H c.repeat.new.words c.repeat.new.octets in
@@ -61,3 +61,9 @@ returns c = λ H l.
     sent (alert_for c.args.timer (first_of t c.args.system)) c.repeat.result before after l
     (rw (lt-leb t.systems system (omega (arith, c.if-system-self.false)), some) refl)
     (subst (λ (ms : List Msg). Performed t (repeating ms (alert_for c.args.timer (first_of t c.args.system))) c.repeat.result before after) (ap (λ (x : Msg). x ∷ []) same ∙ sym one) done)
+
+pub mask-mask-requires-clause-inside : goal.mask-mask-requires-clause-inside
+mask-mask-requires-clause-inside c =
+    let inside = c.of_system.ensures.inside in
+    let size = c.requires.table in
+    omega (arith, inside, size, c.if-system-self.false)

@@ -1,6 +1,7 @@
 use Rattle.std.proofs.Common.{◌≡◌, ℕ, false, ◌||◌, ltb, List, length, Ok, sym, refl, ◌∙◌, arith}
 use Rattle.std.proofs.lemmas.Bool.Decides.{nat_tests}
 use Rattle.std.proofs.lemmas.Result.{err_from_is_err_and}
+use Rattle.circuit.specs.declared.rules.Rule.TheVariants.{Seize}
 use Rattle.supervision.specs.declared.trunk.Config.{Config}
 use Rattle.supervision.specs.Lending.{Lent, lent}
 use Rattle.supervision.specs.Orders.{admitted}
@@ -36,4 +37,4 @@ returns g c =
     (seizure_accepted g.P.Policy.picks g.P.Policy.obeys t body v.0 c.in_ok-place.place c.perform_at.result before after c.args.policy.now c.pick.new.policy c.perform_at.new.policy v.1 v.2 c.perform_at.ensures.policy v.3
     (rw (g.met.P.Policy.sized c.args.policy.now) c.in_ok-admit.ensures.enough.places)
     c.in_ok-place.ensures.found.1
-    (rw (c.in_ok-place.ensures.same, c.cic_at-cic.ensures) at c.perform_at.ensures.done))
+    (rw (c.in_ok-place.ensures.same, c.cic_at-cic.ensures) at (c.perform_at.ensures.done Seize c.apply-change.ensures.value)))

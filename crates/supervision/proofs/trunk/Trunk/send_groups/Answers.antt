@@ -32,16 +32,16 @@ loop-system-preserved c =
     let n = c.loop-system.system in
     let e : n + 1 ≡ suc n = omega arith in
     let i = c.loop-system.invariant in
-    let told = c.send_group-written.ensures.told in
-    let sent = c.send_group-written.ensures.sent in (
+    let told = c.send_mask-written.ensures.told in
+    let sent = c.send_mask-written.ensures.sent in (
       rw e
           (extends_both (groups_below t c.args.what c.args.why (is_due due) n T) (group_for t c.args.what c.args.why (is_due due) n T)
-          c.args.written c.loop-system.written c.send_group-written.result c.args.words.now c.args.octets.now c.loop-system.words c.loop-system.octets c.send_group-written.new.words c.send_group-written.new.octets
-          i.0 c.send_group-written.ensures.sends),
+          c.args.written c.loop-system.written c.send_mask-written.result c.args.words.now c.args.octets.now c.loop-system.words c.loop-system.octets c.send_mask-written.new.words c.send_mask-written.new.octets
+          i.0 (rw c.mask-mask.ensures at c.send_mask-written.ensures.sends)),
       omega (arith, i.1, told),
       omega (arith, i.2, sent),
-      c.send_group-written.ensures.words ∙ i.3,
-      c.send_group-written.ensures.octets ∙ i.4,
+      c.send_mask-written.ensures.words ∙ i.3,
+      c.send_mask-written.ensures.octets ∙ i.4,
     )
 
 pub returns-clause-sends : goal.returns-clause-sends

@@ -2,13 +2,12 @@ use Rattle.std.proofs.Common.{◌≡◌, ◌+◌, ◌*◌, ◌≤◌, false, eqb
 use Rattle.std.proofs.lemmas.Bool.{ne_eqb}
 use Rattle.message.specs.Meaning.{indicator_of}
 use Rattle.message.specs.Msg.{Msg, grouped}
-use Rattle.supervision.specs.Due.{is_due}
-use Rattle.supervision.specs.Groups.{mask_by, group_for}
+use Rattle.supervision.specs.Groups.{asking}
 use Rattle.supervision.specs.Orders.{group_message, status_of}
 use Rattle.supervision.specs.Steps.{sending, Extends}
 use Rattle.supervision.proofs.Systems.{extends_none}
 use Rattle.supervision.proofs.Writable.{own_group}
-use Rattle.supervision.proofs.trunk.Trunk.send_group.Goals as goal
+use Rattle.supervision.proofs.trunk.Trunk.send_mask.Goals as goal
 
 pub send-requires-clause-writable : goal.send-requires-clause-writable
 send-requires-clause-writable c =
@@ -20,26 +19,16 @@ send-requires-clause-writable c =
     (own_group (t.first.0 + (c.args.system * 32 + 1)) c.args.what c.args.why c.slots_of-slots.result.group.status.now (omega (arith, fits, below)) size)
 
 pub returns-then-mask-eq0-clause-sends : goal.returns-then-mask-eq0-clause-sends
-returns-then-mask-eq0-clause-sends c =
-    let t = c.args.self.config in
-    let p = is_due c.args.due in
-    let T = c.args.table.now in
-    let zero : mask_by p c.args.system T ≡ 0 = sym c.mask-mask.ensures ∙ c.if-mask-eq0.true in
-    let none : group_for t c.args.what c.args.why p c.args.system T ≡ [] = rw zero refl in
-    subst (λ (ms : List Msg). Extends (sending ms) c.args.written c.args.words.now c.args.octets.now c.args.written c.args.words.now c.args.octets.now) (sym none)
-    (extends_none c.args.written c.args.words.now c.args.octets.now)
+returns-then-mask-eq0-clause-sends c = rw c.if-mask-eq0.true (extends_none c.args.written c.args.words.now c.args.octets.now)
 
 pub returns-clause-sends : goal.returns-clause-sends
 returns-clause-sends c =
     let t = c.args.self.config in
-    let p = is_due c.args.due in
-    let T = c.args.table.now in
     let system = c.args.system in
-    let mask = mask_by p system T in
-    let some : eqb mask 0 ≡ false = ne_eqb mask 0 (λ e. c.if-mask-eq0.false (c.mask-mask.ensures ∙ e)) in
-    let one : group_for t c.args.what c.args.why p system T ≡ group_message t system c.args.what c.args.why mask ∷ [] = rw some refl in
-    let status : c.slots_of-slots.result.group.status.now ≡ status_of mask =
-    c.slots_of-slots.ensures.status ∙ (c.to_le_bytes-status.ensures ∙ ap status_of c.mask-mask.ensures) in
+    let mask = c.args.mask in
+    let some : eqb mask 0 ≡ false = ne_eqb mask 0 c.if-mask-eq0.false in
+    let one : asking t c.args.what c.args.why system mask ≡ group_message t system c.args.what c.args.why mask ∷ [] = rw some refl in
+    let status : c.slots_of-slots.result.group.status.now ≡ status_of mask = c.slots_of-slots.ensures.status ∙ c.to_le_bytes-status.ensures in
     let same : grouped (t.first.0 + (system * 32 + 1)) c.args.what (indicator_of c.args.why) 30 c.slots_of-slots.result.group.status.now ≡ group_message t system c.args.what c.args.why mask =
     rw (status, add_assoc t.first.0 (system * 32) 1) refl in
     let sent = rw (c.cic_at.ensures, c.slots_of-slots.ensures.first, c.slots_of-slots.ensures.range) at c.send.ensures.sends in
