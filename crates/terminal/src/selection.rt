@@ -39,6 +39,7 @@ impl Policy for Selection {
 
     ghost sized = { held_by-length };
 
+    #[inline(always)]
     fn offer(&mut self, place: Place) {
         match self {
             Selection::OneEnd(policy) => policy.offer(place),
@@ -46,6 +47,7 @@ impl Policy for Selection {
         }
     }
 
+    #[inline(always)]
     fn withdraw(&mut self, place: Place) {
         match self {
             Selection::OneEnd(policy) => policy.withdraw(place),
@@ -53,6 +55,7 @@ impl Policy for Selection {
         }
     }
 
+    #[inline(always)]
     fn choose(&mut self) -> Option<Place> {
         match self {
             Selection::OneEnd(policy) => policy.choose(),
