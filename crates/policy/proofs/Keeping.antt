@@ -77,12 +77,14 @@ end_first e p end x y ns h q =
     let past : 512 ≤ end = rw q (end_past (controlled e p)) in
     set_comm ns p end x y (λ r. omega arith)
 
--- offered again, a member keeps its turn
-pub offer_member : (e : Bool) (ls : List Link) (p : ℕ) → slice_index_or (marks ls) p false ≡ true → (zs : List ℕ) → Ordered e ls zs → Ordered e ls (offered p zs)
-offer_member e ls p t zs o =
-    let h : has zs p ≡ true = sym (o.0 p) ∙ t in
+-- offered again, a member keeps its turn, whether its mark is written again or not
+pub offer_member : (e : Bool) (ls ls' : List Link) (p : ℕ) → slice_index_or (marks ls) p false ≡ true → newers ls' ≡ newers ls → olders ls' ≡ olders ls →
+    marks ls' ≡ slice_set (marks ls) p true → (zs : List ℕ) → Ordered e ls zs → Ordered e ls' (offered p zs)
+offer_member e ls ls' p t a b c zs (m, o, r, s) =
+    let i : has zs p ≡ true = sym (m p) ∙ t in
     let w : offered p zs ≡ zs = grind (arith, nat_tests) in
-    rw w o
+    let d : marks ls' ≡ marks ls = c ∙ sym (same_mark (marks ls) p true t) in
+    rw (w, a, b, d) (m, o, r, s)
 
 pub offer_past : (e : Bool) (ls : List Link) (p : ℕ) → 512 ≤ p → (zs : List ℕ) → Ordered e ls zs → Ordered e ls (offered p zs)
 offer_past e ls p h zs o = let w : offered p zs ≡ zs = grind (arith, nat_tests) in rw w o

@@ -1,4 +1,4 @@
-use Rattle.std.proofs.Common.{◌≡◌, true, get_or, set, sym, subst, ◌∙◌, arith, ◌<◌, ℕ, slice_index}
+use Rattle.std.proofs.Common.{◌≡◌, true, get_or, set, sym, refl, subst, ◌∙◌, arith, ◌<◌, ℕ, slice_index}
 use Rattle.std.proofs.lemmas.List.{set_past}
 use Rattle.policy.specs.Fields.{marks-length}
 use Rattle.policy.proofs.Fields.{mark_at}
@@ -39,6 +39,7 @@ returns-else-at-lt-MOST_PLACES-clause-order c =
     let ls = c.args.self.now.links in
     elim c.else-at-lt-MOST_PLACES.branch [
       | else-at-lt-MOST_PLACES-via-then-at-lt-MOST_PLACES+else-not-self-at w ↦
-          offer_member c.args.even ls c.args.at (mark_at ls c.args.at w.if-at-lt-MOST_PLACES.true ∙ w.if-not-self-at.false)
+          let t = mark_at ls c.args.at w.if-at-lt-MOST_PLACES.true ∙ w.if-not-self-at.false in
+          offer_member c.args.even ls ls c.args.at t refl refl (same_mark (marks ls) c.args.at true t)
       | else-at-lt-MOST_PLACES-via-else-at-lt-MOST_PLACES w ↦ offer_past c.args.even ls c.args.at w.if-at-lt-MOST_PLACES.false
     ]
