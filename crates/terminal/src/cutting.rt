@@ -3,10 +3,23 @@ use crate::numerals::{hex_octet, hex_word};
 use std::alloc::{AllocError, Global};
 
 /// The words of a line: what stands between spaces.
+// Not by `split`, which would make a piece of each space of a gap.
 pub fn words_of(heap: Global, line: &[u8]) -> Result<Vec<&[u8]>, AllocError> {
-    line.split(|byte| *byte == b' ')
-        .filter(|word| !word.is_empty())
-        .collect(heap)
+    let mut words = Vec::new(heap);
+    let mut rest = line;
+    while let Some(end) = rest.iter().position(|byte| *byte == b' ') {
+        if end > 0 {
+            words.push(&rest[..end])?;
+            rest = &rest[end + 1..];
+        } else {
+            let gap = rest.iter().position(|byte| *byte != b' ');
+            rest = &rest[gap.unwrap_or(rest.len())..];
+        }
+    }
+    if !rest.is_empty() {
+        words.push(rest)?;
+    }
+    Ok(words)
 }
 
 // What each word says, or `None` where one says nothing.
