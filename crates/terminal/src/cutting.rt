@@ -10,10 +10,10 @@ pub fn words_of(heap: Global, line: &[u8]) -> Result<Vec<&[u8]>, AllocError> {
     while let Some(end) = rest.iter().position(|byte| *byte == b' ') {
         if end > 0 {
             words.push(&rest[..end])?;
-            rest = &rest[end + 1..];
-        } else {
-            let gap = rest.iter().position(|byte| *byte != b' ');
-            rest = &rest[gap.unwrap_or(rest.len())..];
+        }
+        rest = &rest[end + 1..];
+        while let [b' ', after @ ..] = rest {
+            rest = after;
         }
     }
     if !rest.is_empty() {
